@@ -18,22 +18,7 @@ use Rattle.machine.specs.declared.refusals.Refusal.the-variants.{NoRoom}
 use Rattle.machine.specs.declared.steps.Step.{Step}
 use Rattle.machine.specs.declared.turns.Turn.{Turn}
 use Rattle.machine.proofs.Runs.{ran-join, ran-none, ran-turn}
-
--- a walk that goes through takes its first step
-pub record Goes (p : Step) (ps : List Step) (t u : Turn) : Type 0 where
-  pub in-its-range : in-range p t ≡ true
-  pub in-its-turn : in-turn p t ≡ true
-  pub rest : walked ps (turn-after p t) ≡ Ok u
-
-pub goes : (p : Step) (ps : List Step) (t u : Turn) → walked (p ∷ ps) t ≡ Ok u → Goes p ps t u
-goes p ps t u e =
-    elim (cases-bool (in-range p t)) [
-      | inl r ↦ elim (cases-bool (in-turn p t)) [
-        | inl q ↦ record { in-its-range = r; in-its-turn = q; rest = grind (arith, e, r, q) }
-        | inr q ↦ absurd (grind (arith, e, r, q))
-      ]
-      | inr r ↦ absurd (grind (arith, e, r))
-    ]
+use Rattle.machine.proofs.Walks.{Goes, goes}
 
 -- a step that a walk takes is refused by no emitter with room
 pub not-refused : (p : Step) (ps : List Step) (t u : Turn) (room : ℕ) (f : Refusal) → Goes p ps t u → 0 < room → Err f ≡ verdict p t room → ⊥

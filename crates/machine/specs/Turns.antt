@@ -103,3 +103,18 @@ moved p t = judged p t (Ok (turn-after p t))
 abbrev pub walked : List Step → Turn → Result Turn Refusal
 walked [] t = Ok t
 walked (p ∷ ps) t = elim (moved p t) [ Ok u ↦ walked ps u | Err f ↦ Err f ]
+
+abbrev pub same-turn : Turn → Turn → Bool
+same-turn Bare Bare = true
+same-turn Bare (Reserved b) = false
+same-turn Bare (Called b) = false
+same-turn (Reserved a) Bare = false
+same-turn (Reserved a) (Reserved b) = eqb a b
+same-turn (Reserved a) (Called b) = false
+same-turn (Called a) Bare = false
+same-turn (Called a) (Reserved b) = false
+same-turn (Called a) (Called b) = eqb a b
+
+-- the steps walk from bare to this turn
+abbrev pub arrives : List Step → Turn → Bool
+arrives ps t = elim (walked ps Bare) [ Ok u ↦ same-turn u t | Err f ↦ false ]

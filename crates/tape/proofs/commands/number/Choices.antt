@@ -1,0 +1,7 @@
+use Prim.Native.Nat.{_-_}
+use lib.ListN.{length, drop}
+use Rattle.tape.proofs.Numbers.{Writes}
+use Rattle.tape.proofs.commands.number.Given as given
+
+abbrev pub Inv-loop-i : given.InvT-loop-i
+Inv-loop-i l = Writes (l .number) (drop (l .i) (l .bytes))

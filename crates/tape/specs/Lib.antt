@@ -1,0 +1,9 @@
+pub mod Limits
+pub mod Opcodes
+pub mod Commands
+pub mod Readings
+pub mod Tapes
+pub mod Gaining
+pub mod Meanings
+pub mod Readers
+pub mod Whole
