@@ -24,12 +24,11 @@ use Rattle.machine.proofs.Walks.{Goes, goes}
 pub not-refused : (p : Step) (ps : List Step) (t u : Turn) (room : ℕ) (f : Refusal) → Goes p ps t u → 0 < room → Err f ≡ verdict p t room → ⊥
 not-refused p ps t u room f go some e = grind (arith, tells, go .in-its-range, go .in-its-turn, e)
 
--- the first i of the steps have been given, from a to b
+-- the first i of the steps have been given, from a to b, and the others go on
 pub record Giving {E : Type 0} (m : Meaning E) (ps : List Step) (i : ℕ) (a b : E) : Type 0 where
   pub ran : Ran m (take i ps) a b
   pub last : Turn
   pub goes-on : walked (drop i ps) (m .turn b) ≡ Ok last
-  pub room : length ps ≤ m .room b + i
 
 module _ {E : Type 0} (m : Meaning E) (ps : List Step) where
   pub giving-goes : (i : ℕ) (d : Step) (a b : E) (g : Giving m ps i a b) → i < length ps → Goes (getD ps i d) (drop (i + 1) ps) (m .turn b) (g .last)
@@ -41,8 +40,10 @@ module _ {E : Type 0} (m : Meaning E) (ps : List Step) where
     ran = subst (λ qs. Ran m qs a c) (sym (take-more ps i d h)) (ran-join m (take i ps) (getD ps i d ∷ []) a b c (g .ran) one);
     last = g .last;
     goes-on = ap (walked (drop (i + 1) ps)) (ran-turn m (getD ps i d) b c one) ∙ giving-goes i d a b g h .rest;
-    room = omega (arith, g .room, one .room-left);
   }
+
+  pub giving-all : (i : ℕ) (a b : E) → Giving m ps i a b → length ps ≤ i → Ran m ps a b
+  giving-all i a b g h = subst (λ qs. Ran m qs a b) (take-all i ps h) (g .ran)
 
   -- a is the emitter as it came, and t the turn that it told
   module _ (a : E) (t : Turn) (told : t ≡ m .turn a) where
@@ -53,11 +54,11 @@ module _ {E : Type 0} (m : Meaning E) (ps : List Step) where
       pub gave-no-room : m .room a < length ps → Gave m ps (Err NoRoom) a a
       gave-no-room room = record { answer = grind (arith, tells, walks, told, room); did = refl }
 
-      pub giving-none : length ps ≤ m .room a → Giving m ps 0 a a
-      giving-none room = record { ran = ran-none m a; last = u; goes-on = cc (walks, told); room = omega arith }
+      pub giving-none : Giving m ps 0 a a
+      giving-none = record { ran = ran-none m a; last = u; goes-on = cc (walks, told) }
 
       pub gave-all : (i : ℕ) (b : E) → Giving m ps i a b → length ps ≤ i → length ps ≤ m .room a → Gave m ps (Ok tt) a b
       gave-all i b g h room = record {
         answer = grind (arith, tells, walks, told, room);
-        did = subst (λ qs. Ran m qs a b) (take-all i ps h) (g .ran);
+        did = giving-all i a b g h;
       }

@@ -4,11 +4,12 @@ use mathlib.Core.List.{List, [], _∷_, _++_}
 use Prim.Native.Nat.{ℕ, zero, suc, _+_, _-_, _*_, _/_, _%_, _^_, _<_, _≤_}
 use native.Mathlib.Omega.{arith}
 use lib.ListN.{length, getD, take, drop}
-use Rattle.std.proofs.shelf.Lists.{append-assoc, drop-at, getD-append-left, getD-append-right, length-append, take-at}
+use Rattle.std.proofs.shelf.Lists.{append-assoc, at-drop-all, at-drop-more, drop-at, getD-append-left, getD-append-right, length-append, take-at}
 use mathlib.Core.Bool.{true, false}
 use lib.Dec.{leb, ltb}
 use Rattle.std.proofs.shelf.Tests.{and-parts, cond-true, le-leb, ltb-true}
-use Rattle.std.specs.declared.option.Option.the-variants.{Some, None}
+use Rattle.std.specs.Joined.{joined}
+use Rattle.std.specs.declared.option.Option.the-variants.{Some}
 use Rattle.std.specs.declared.result.Result.the-variants.{Ok, Err}
 use Rattle.machine.specs.declared.steps.Step.{Step}
 use Rattle.machine.specs.declared.steps.Step.the-variants as machine
@@ -117,3 +118,13 @@ size-bound c = widths (c .opcode)
     widths Reserve = omega arith
     widths Call = omega arith
     widths Pop = omega arith
+
+-- the commands of what is left of a list, one step on; c is that step's command
+pub length-left : (ps : List Step) (i : ℕ) (d : Step) (c : Command) → i < length ps → c ≡ command-of (getD ps i d) → length (joined encode (drop i ps)) ≡ size c + length (joined encode (drop (i + 1) ps))
+length-left ps i d c h is =
+    at-drop-more (λ qs. length (joined encode qs)) ps i d h
+    ∙ length-append (encode (getD ps i d)) (joined encode (drop (i + 1) ps))
+    ∙ ap (λ n. n + length (joined encode (drop (i + 1) ps))) (length-encode (getD ps i d) ∙ ap size (sym is))
+
+pub length-left-none : (ps : List Step) (i : ℕ) → length ps ≤ i → length (joined encode (drop i ps)) ≡ 0
+length-left-none ps i h = at-drop-all (λ qs. length (joined encode qs)) ps i h

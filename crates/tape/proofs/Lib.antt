@@ -1,6 +1,7 @@
 pub mod Asking
 pub mod Decoding
 pub mod Encoding
+pub mod Filling
 pub mod Numbers
 pub mod Parsing
 pub mod Rounds

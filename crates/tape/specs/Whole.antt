@@ -2,9 +2,9 @@
 use Prim.Native.Nat.{ℕ, _+_, _-_, _≤_}
 use mathlib.Core.Path.{_≡_}
 use mathlib.Core.Bool.{cond, true}
-use mathlib.Core.List.{List}
+use mathlib.Core.List.{List, _++_}
 use lib.Dec.{ltb}
-use lib.ListN.{length}
+use lib.ListN.{length, drop}
 use Rattle.std.specs.Joined.{joined}
 use Rattle.std.specs.Of.Vec.{vec-items}
 use Rattle.std.specs.declared.alloc.Global.{Global}
@@ -13,10 +13,11 @@ use Rattle.std.specs.declared.result.Result.{Result}
 use Rattle.std.specs.declared.result.Result.the-variants.{Ok, Err}
 use Rattle.std.specs.declared.vec.Vec.{Vec}
 use Rattle.machine.specs.Turns.{is-bare, walked}
-use Rattle.machine.specs.declared.refusals.Refusal.the-variants.{OutOfTurn, TooLong}
+use Rattle.machine.specs.declared.refusals.Refusal.{Refusal}
+use Rattle.machine.specs.declared.refusals.Refusal.the-variants.{NoRoom, OutOfTurn, TooLong}
 use Rattle.machine.specs.declared.steps.Step.{Step}
 use Rattle.machine.specs.declared.turns.Turn.the-variants.{Bare}
-use Rattle.tape.specs.Limits.{tape-limit}
+use Rattle.tape.specs.Limits.{longest-command, tape-limit}
 use Rattle.tape.specs.Commands.{encode}
 use Rattle.tape.specs.Readings.{Reading, all-fit, reading}
 use Rattle.tape.specs.Readers.{fault}
@@ -61,3 +62,17 @@ pub record Commands (ps : List Step) (bs : List ℕ) : Type 0 where
   pub fit : all-fit ps ≡ true
   pub bare : walked ps Bare ≡ Ok Bare
   pub short : length bs ≤ tape-limit
+
+-- the answer to steps to be written as a tape: the first step's refusal that is out of range or out of
+-- turn, then no room unless ten bytes are to spare, and otherwise the tape's length
+abbrev pub write-verdict : List Step → ℕ → Result ℕ Refusal
+write-verdict ps space =
+    elim (walked ps Bare) [
+      Ok _ ↦ cond (ltb space (length (joined encode ps) + longest-command)) (Err NoRoom) (Ok (length (joined encode ps)))
+    | Err f ↦ Err f
+    ]
+
+-- the buffer begins with the tape and is otherwise as it was, or nothing has changed
+abbrev pub Filled : {E : Type 0} → List ℕ → Result ℕ E → List ℕ → List ℕ → Type 0
+Filled tape (Ok _) before after = after ≡ tape ++ drop (length tape) before
+Filled tape (Err _) before after = after ≡ before

@@ -14,17 +14,18 @@ returns-then-room-steps g c =
 
 pub loop-step-holds : need.loop-step-holds
 loop-step-holds g c =
-    giving-none (g .E·Emitter .meaning) (c .args .steps .now) _ _ (c .turn .ensures) _ (c .in-Continue-after-all .ensures tt) (omega arith)
+    (giving-none (g .E·Emitter .meaning) (c .args .steps .now) _ _ (c .turn .ensures) _ (c .in-Continue-after-all .ensures tt), omega arith)
 
 pub unreachable-requires : need.unreachable-requires
 unreachable-requires g c κs =
-    let goes = giving-goes (g .E·Emitter .meaning) (c .args .steps .now) _ _ _ _ (c .loop-step .inv) (c .loop-step-test .taken) in
+    let goes = giving-goes (g .E·Emitter .meaning) (c .args .steps .now) _ _ _ _ (c .loop-step .inv .0) (c .loop-step-test .taken) in
     not-refused _ _ _ _ _ (c .in-Err .field-0) goes (omega arith) (c .in-Err .ensures tt .answer)
 
 pub loop-step-again : need.loop-step-again
 loop-step-again g c =
-    giving-more (g .E·Emitter .meaning) (c .args .steps .now) _ _ _ _ _ (c .loop-step .inv) (c .loop-step-test .taken) (c .in-Ok .ensures tt .did)
+    let ran = c .in-Ok .ensures tt .did in
+    (giving-more (g .E·Emitter .meaning) (c .args .steps .now) _ _ _ _ _ (c .loop-step .inv .0) (c .loop-step-test .taken) ran, omega (arith, ran .room-left))
 
 pub returns : need.returns
 returns g c =
-    gave-all (g .E·Emitter .meaning) (c .args .steps .now) _ _ (c .turn .ensures) _ (c .in-Continue-after-all .ensures tt) _ _ (c .loop-step .inv) (c .loop-step-test .left) (omega arith)
+    gave-all (g .E·Emitter .meaning) (c .args .steps .now) _ _ (c .turn .ensures) _ (c .in-Continue-after-all .ensures tt) _ _ (c .loop-step .inv .0) (c .loop-step-test .left) (omega arith)

@@ -1,0 +1,30 @@
+// Origins: where a word came from.
+ghost use Rattle.bench.specs.Origins.{origin-stands};
+use crate::kinds::WordKind;
+use machine::places::LocalSlot;
+use machine::places::LocalSlotDebug;
+use machine::places::LocalSlotPartialEq;
+use machine::places::Register;
+use machine::places::RegisterDebug;
+use machine::places::RegisterPartialEq;
+
+// the word of the start's register or local slot, a number, or unknown
+#[derive(Clone, Copy, PartialEq, Eq, Debug)]
+pub enum Origin {
+    Unknown,
+    Register(Register),
+    Local(LocalSlot),
+    Number(u64),
+}
+
+pub impl WordKind for Origin as Origins {
+    ghost stands = { origin-stands };
+
+    fn number(number: u64) -> Origin {
+        Origin::Number(number)
+    }
+
+    fn unknown() -> Origin {
+        Origin::Unknown
+    }
+}
