@@ -4,7 +4,7 @@ use mathlib.Core.List.{List, [], _∷_, _++_}
 use Prim.Native.Nat.{ℕ, zero, suc, _+_, _-_, _*_, _/_, _%_, _^_, _<_, _≤_}
 use native.Mathlib.Omega.{arith}
 use lib.ListN.{length, getD, take, drop}
-use Rattle.std.proofs.shelf.Lists.{append-assoc, at-drop-all, at-drop-more, drop-at, getD-append-left, getD-append-right, length-append, take-at}
+use Rattle.std.proofs.shelf.Lists.{append-assoc, append-nil, at-drop-all, at-drop-more, drop-at, getD-append-left, getD-append-right, length-append, take-at}
 use mathlib.Core.Bool.{true, false}
 use lib.Dec.{leb, ltb}
 use Rattle.std.proofs.shelf.Tests.{and-parts, cond-true, le-leb, ltb-true}
@@ -16,6 +16,7 @@ use Rattle.machine.specs.declared.steps.Step.the-variants as machine
 use Rattle.tape.specs.Limits.{longest-command}
 use Rattle.tape.specs.Opcodes.{first-byte, first-width, opcode-at, operand-bytes, second-width}
 use Rattle.tape.specs.Commands.{bytes-of, command-of, encode, first-step, fits, little, size, step-at, step-by, step-of, value}
+use Rattle.tape.specs.Gaining.{joined-append}
 use Rattle.tape.specs.declared.commands.Command.{Command}
 use Rattle.tape.specs.declared.opcodes.Opcode.{Opcode}
 use Rattle.tape.specs.declared.opcodes.Opcode.the-variants.{Copy, Set, Fetch, Back, Store, Keep, Reserve, Call, Pop}
@@ -119,12 +120,19 @@ size-bound c = widths (c .opcode)
     widths Call = omega arith
     widths Pop = omega arith
 
--- the commands of what is left of a list, one step on; c is that step's command
+-- the commands of what is left of a list, one step on
+pub left-more : (ps : List Step) (i : ℕ) (d : Step) → i < length ps → length (joined encode (drop i ps)) ≡ length (encode (getD ps i d)) + length (joined encode (drop (i + 1) ps))
+left-more ps i d h =
+    at-drop-more (λ qs. length (joined encode qs)) ps i d h ∙ length-append (encode (getD ps i d)) (joined encode (drop (i + 1) ps))
+
+-- the same by that step's command
 pub length-left : (ps : List Step) (i : ℕ) (d : Step) (c : Command) → i < length ps → c ≡ command-of (getD ps i d) → length (joined encode (drop i ps)) ≡ size c + length (joined encode (drop (i + 1) ps))
 length-left ps i d c h is =
-    at-drop-more (λ qs. length (joined encode qs)) ps i d h
-    ∙ length-append (encode (getD ps i d)) (joined encode (drop (i + 1) ps))
-    ∙ ap (λ n. n + length (joined encode (drop (i + 1) ps))) (length-encode (getD ps i d) ∙ ap size (sym is))
+    left-more ps i d h ∙ ap (λ n. n + length (joined encode (drop (i + 1) ps))) (length-encode (getD ps i d) ∙ ap size (sym is))
 
 pub length-left-none : (ps : List Step) (i : ℕ) → length ps ≤ i → length (joined encode (drop i ps)) ≡ 0
 length-left-none ps i h = at-drop-all (λ qs. length (joined encode qs)) ps i h
+
+-- the commands of one step more
+pub joined-more : (ps : List Step) (p : Step) → joined encode (ps ++ (p ∷ [])) ≡ joined encode ps ++ encode p
+joined-more ps p = joined-append encode ps (p ∷ []) ∙ ap (λ bs. joined encode ps ++ bs) (append-nil (encode p))

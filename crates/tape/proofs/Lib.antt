@@ -1,4 +1,5 @@
 pub mod Asking
+pub mod Copying
 pub mod Decoding
 pub mod Encoding
 pub mod Filling

@@ -7,8 +7,10 @@ use Prim.Native.Nat.{ℕ, _+_, _-_, _<_, _≤_}
 use native.Mathlib.Omega.{arith}
 use lib.Dec.{ltb}
 use lib.ListN.{length, take, drop}
-use Rattle.std.proofs.shelf.Lists.{append-assoc, append-nil, drop-drop, length-drop}
+use lib.Seq.{take-add}
+use Rattle.std.proofs.shelf.Lists.{append-assoc, append-nil, drop-drop, length-drop, take-all}
 use Rattle.std.proofs.shelf.Tests.{cases-bool, cond-false, cond-true, le-ltb, lt-ltb, ltb-false, ltb-true}
+use Rattle.std.specs.Joined.{joined}
 use Rattle.std.specs.declared.option.Option.{Option}
 use Rattle.std.specs.declared.option.Option.the-variants.{Some, None}
 use Rattle.std.specs.declared.result.Result.{Result}
@@ -28,7 +30,7 @@ use Rattle.tape.specs.declared.readers.Fault.{Fault}
 use Rattle.tape.specs.declared.readers.Part.{Part}
 use Rattle.tape.specs.declared.readers.Reader.{Reader}
 use Rattle.tape.proofs.Decoding.{read-none, read-refused, read-step}
-use Rattle.tape.proofs.Encoding.{length-encode}
+use Rattle.tape.proofs.Encoding.{joined-more, length-encode}
 
 -- the ways in which a reader may answer
 data Next (t : Turn) (place : ℕ) (xs : List ℕ) : Result (Option Step) Fault → Type 0 where
@@ -62,6 +64,8 @@ after done r = record { steps = done ++ r .steps; turn = r .turn; left = r .left
 pub record Through (bs : List ℕ) (done : List Step) (a : Reader) : Type 0 where
   pub tape : a .tape .now ≡ bs
   pub reads : reading bs ≡ after done (read 0 (a .turn) (drop (a .place) bs))
+  -- and their commands are what it has passed
+  pub front : joined encode done ≡ take (a .place) bs
 
 -- the ways of an answer: the tape is too long, or one of the ways of what is left of it
 data Way (a : Reader) : Result (Option Step) Fault → Type 0 where
@@ -78,7 +82,11 @@ way a r b asked =
     ])
 
 pub through-none : (bs : List ℕ) (a : Reader) → a .tape .now ≡ bs → a .place ≡ 0 → a .turn ≡ Bare → Through bs [] a
-through-none bs a tape place turn = record { tape = tape; reads = λ i. read 0 (sym turn i) (drop (sym place i) bs) }
+through-none bs a tape place turn = record {
+  tape = tape;
+  reads = λ i. read 0 (sym turn i) (drop (sym place i) bs);
+  front = λ i. take (sym place i) bs;
+}
 
 -- the reader passes one part more
 pub through-more : (bs : List ℕ) (done : List Step) (a : Reader) (part : Part) (b : Reader) → Through bs done a → Asked a (Ok (Some part)) b → Through bs (done ++ (part .step ∷ [])) b
@@ -105,6 +113,12 @@ through-more bs done a part b th asked = by-way (way a (Ok (Some part)) b asked)
                 left = read 0 (b .turn) (drop (b .place) bs) .left;
                 stop = read 0 (b .turn) (drop (b .place) bs) .stop;
               });
+          front =
+            joined-more done (part .step)
+            ∙ (λ i. th .front i ++ sym (passed .bytes) i)
+            ∙ ap (λ l. take (a .place) bs ++ l) (passed .there ∙ ap (λ l. take (length (encode (part .step))) (drop (a .place) l)) (th .tape))
+            ∙ sym (take-add (a .place) (length (encode (part .step))) bs)
+            ∙ ap (λ n. take n bs) (sym (passed .next));
         }
 
 -- what is left of the tape decides what it reads as
@@ -134,6 +148,14 @@ module _ (bs : List ℕ) (done : List Step) (a : Reader) (th : Through bs done a
       by-way : Way a (Ok None) → tape-reads bs ≡ Ok done
       by-way (goes-on short (at-end none-left bare)) =
           ends short none-left ∙ cond-true (is-bare (a .turn)) _ _ bare ∙ ap (λ ps. Ok ps) (append-nil done)
+
+  -- at the end the commands of the steps read are the whole tape
+  pub through-all : (b : Reader) → Asked a (Ok None) b → joined encode done ≡ bs
+  through-all b asked = by-way (way a (Ok None) b asked)
+    where
+      by-way : Way a (Ok None) → joined encode done ≡ bs
+      by-way (goes-on short (at-end none-left bare)) =
+          th .front ∙ take-all (a .place) bs (omega (arith, length-drop (a .place) bs, ap length (sym left-of ∙ none-left)))
 
   pub through-fault : (e : Fault) (b : Reader) → Asked a (Err e) b → tape-reads bs ≡ Err e
   through-fault e b asked = by-way e (way a (Err e) b asked)

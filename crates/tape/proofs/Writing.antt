@@ -24,12 +24,12 @@ use Rattle.tape.specs.Limits.{longest-command}
 use Rattle.tape.specs.Commands.{bytes-of, command-of, encode, fits, size}
 use Rattle.tape.specs.Readings.{Reading, all-fit, reading, steps-on}
 use Rattle.tape.specs.Tapes.{Gains, tape-steps, written}
-use Rattle.tape.specs.Gaining.{joined-append, take-written}
+use Rattle.tape.specs.Gaining.{take-written}
 use Rattle.tape.specs.Meanings.{tape-meaning}
 use Rattle.tape.specs.declared.commands.Command.{Command}
 use Rattle.tape.specs.declared.tapes.Tape.{Tape}
 use Rattle.tape.proofs.Decoding.{all-read, read-all}
-use Rattle.tape.proofs.Encoding.{length-bytes, length-encode, size-bound}
+use Rattle.tape.proofs.Encoding.{joined-more, length-bytes, length-encode, size-bound}
 
 -- what a tape keeps of its used bytes x
 abbrev pub Sound : List ℕ → Turn → Type 0
@@ -45,10 +45,6 @@ all-fit-more [] p e fit = and-from (fits (command-of p)) true fit refl
 all-fit-more (q ∷ ps) p e fit =
     let parts = and-parts (fits (command-of q)) (all-fit ps) e in
     and-from (fits (command-of q)) (all-fit (ps ++ (p ∷ []))) (parts .0) (all-fit-more ps p (parts .1) fit)
-
--- the commands of one step more
-joined-more : (ps : List Step) (p : Step) → joined encode (ps ++ (p ∷ [])) ≡ joined encode ps ++ encode p
-joined-more ps p = joined-append encode ps (p ∷ []) ∙ ap (λ bs. joined encode ps ++ bs) (append-nil (encode p))
 
 -- a step that fits and is taken comes after the used bytes x
 module _ (x : List ℕ) (t u : Turn) (p : Step) (sound : Sound x t) (fit : fits (command-of p) ≡ true) (goes : moved p t ≡ Ok u) where

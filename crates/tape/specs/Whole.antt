@@ -24,6 +24,8 @@ use Rattle.tape.specs.Readers.{fault}
 use Rattle.tape.specs.declared.readers.Fault.{Fault}
 use Rattle.tape.specs.declared.errors.ReadError.{ReadError}
 use Rattle.tape.specs.declared.errors.ReadError.the-variants.{Memory, Refused}
+use Rattle.tape.specs.declared.errors.RewriteError.{RewriteError}
+use Rattle.tape.specs.declared.errors.RewriteError.the-variants.{Read as NotRead, Write}
 
 -- what a reading of a tape of n bytes comes to: its steps if it ends bare, and otherwise why it is
 -- refused and at which byte
@@ -76,3 +78,12 @@ write-verdict ps space =
 abbrev pub Filled : {E : Type 0} → List ℕ → Result ℕ E → List ℕ → List ℕ → Type 0
 Filled tape (Ok _) before after = after ≡ tape ++ drop (length tape) before
 Filled tape (Err _) before after = after ≡ before
+
+-- the answer to a tape of n bytes to be written again: why it is refused, then no room unless ten bytes
+-- are to spare, and otherwise its length
+abbrev pub rewritten : Result (List Step) Fault → ℕ → ℕ → Result ℕ RewriteError
+rewritten (Ok _) n space = cond (ltb space (n + longest-command)) (Err (Write NoRoom)) (Ok n)
+rewritten (Err f) n space = Err (NotRead f)
+
+abbrev pub rewrite-verdict : List ℕ → ℕ → Result ℕ RewriteError
+rewrite-verdict bs space = rewritten (tape-reads bs) (length bs) space

@@ -1,20 +1,25 @@
 // Whole tapes: read to the end, written from a list of steps, and written again.
 ghost use mathlib.Core.Path.{_≡_};
-ghost use Prim.Native.Nat.{_+_};
+ghost use Prim.Native.Nat.{_+_, _≤_};
 ghost use mathlib.Core.List.{List};
 ghost use lib.Dec.{leb};
-ghost use lib.ListN.{length};
+ghost use lib.ListN.{length, take};
 ghost use Rattle.std.specs.Joined.{joined};
-ghost use Rattle.tape.specs.Limits.{longest-command};
+ghost use Rattle.tape.specs.Limits.{longest-command, tape-limit};
+ghost use Rattle.machine.specs.declared.turns.Turn.the-variants.{Bare};
 ghost use Rattle.tape.specs.Commands.{encode};
-ghost use Rattle.tape.specs.Whole.{Commands, Filled, Read, ReadAs, checked, tape-reads, write-verdict};
+ghost use Rattle.tape.specs.Tapes.{tape-steps};
+ghost use Rattle.tape.specs.Whole.{Commands, Filled, Read, ReadAs, checked, rewrite-verdict, tape-reads, write-verdict};
 use crate::commands::Command;
 use crate::errors::ReadError;
 use crate::errors::ReadErrorFromFault;
 use crate::errors::ReadErrorFromRefused;
+use crate::errors::RewriteError;
+use crate::errors::RewriteErrorFromFault;
 use crate::limits::LONGEST_COMMAND;
 use crate::readers::Fault;
 use crate::readers::reads::open_reader;
+use crate::tapes::Tape;
 use crate::tapes::emits::TapeEmitter;
 use crate::tapes::emits::open_tape;
 use machine::emitters::Emitter;
@@ -43,6 +48,14 @@ pub fn read_tape(heap: Global, tape: &[u8]) -> Result<Vec<Step>, ReadError>
         steps.push(part.step)?;
     }
     Ok(steps)
+}
+
+// The steps on a tape that was written here.
+pub fn read_back(heap: Global, tape: &Tape) -> Result<Vec<Step>, ReadError>
+    ensures answer { λ r. ⌜ Read (take (now (tape .entry) .used) (now (tape .entry) .buffer .now)) r ⌝ }
+    ensures round { λ r. ⌜ (now (tape .entry) .used ≤ tape-limit → now (tape .entry) .turn ≡ Bare → ReadAs (tape-steps (now (tape .entry))) r) ⌝ }
+{
+    read_tape(heap, tape.bytes())
 }
 
 // Whether the commands of the steps leave ten bytes to spare.
@@ -77,4 +90,25 @@ pub fn write_tape(steps: &[Step], buffer: &mut [u8]) -> Result<usize, Refusal>
         }
     }
     Ok(tape.bytes().len())
+}
+
+// Writes an accepted tape again, step by step, and answers its length; or refuses, and writes nothing.
+pub fn rewrite_tape(tape: &[u8], buffer: &mut [u8]) -> Result<usize, RewriteError>
+    ensures answer { λ r. ⌜ r ≡ rewrite-verdict (now (tape .entry)) (length (now (buffer .entry))) ⌝ }
+    ensures bytes { λ r. ⌜ Filled (now (tape .entry)) r (now (buffer .entry)) (now (buffer .exit)) ⌝ }
+{
+    check_tape(tape)?;
+    if buffer.len() < tape.len() + LONGEST_COMMAND {
+        return Err(RewriteError::Write(Refusal::NoRoom));
+    }
+    let mut copy = open_tape(buffer);
+    let mut reader = open_reader(tape);
+    // neither refuses now: the tape was read through, and there is space for all of it
+    while let Some(part) = reader.next_command()? {
+        match copy.take(part.step) {
+            Ok(()) => {}
+            Err(_) => unreachable(),
+        }
+    }
+    Ok(tape.len())
 }
