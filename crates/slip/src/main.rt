@@ -26,27 +26,51 @@ use tape::whole::write_tape;
 
 // the routine, and the registers that its calls lose
 const ROUTINE: u32 = 7;
+
 const LOST: RegisterSet = RegisterSet(0x0000_0FC7);
 // the registers of the two speeds, and a third one
 const LEFT: Register = Register(6);
+
 const RIGHT: Register = Register(7);
+
 const SPARE: Register = Register(11);
 // enough for either tape, with ten bytes to spare
 const BUFFER: usize = 64;
 
 // the right list: each speed goes to the other's register
 const RIGHT_STEPS: [Step; 4] = [
-    Step::Copy { to: SPARE, from: LEFT },
-    Step::Copy { to: LEFT, from: RIGHT },
-    Step::Copy { to: RIGHT, from: SPARE },
-    Step::Call { routine: ROUTINE, lost: LOST },
+    Step::Copy {
+        to: SPARE,
+        from: LEFT,
+    },
+    Step::Copy {
+        to: LEFT,
+        from: RIGHT,
+    },
+    Step::Copy {
+        to: RIGHT,
+        from: SPARE,
+    },
+    Step::Call {
+        routine: ROUTINE,
+        lost: LOST,
+    },
 ];
 
 // the old list: one speed is copied over the other
 const WRONG_STEPS: [Step; 3] = [
-    Step::Copy { to: LEFT, from: RIGHT },
-    Step::Copy { to: RIGHT, from: LEFT },
-    Step::Call { routine: ROUTINE, lost: LOST },
+    Step::Copy {
+        to: LEFT,
+        from: RIGHT,
+    },
+    Step::Copy {
+        to: RIGHT,
+        from: LEFT,
+    },
+    Step::Call {
+        routine: ROUTINE,
+        lost: LOST,
+    },
 ];
 
 // What the routine saw of the two speeds.

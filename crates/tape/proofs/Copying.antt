@@ -56,7 +56,7 @@ module _ (bs : List ℕ) (a : Tape) (r : Reader) (b : Tape) (copying : Copying b
     goes-part : Goes (part .step) [] (b .turn) (s .turn)
     goes-part =
         goes (part .step) [] (b .turn) (s .turn)
-          (walked-cons (part .step) [] (b .turn) (s .turn) (ap (moved (part .step)) (copying .same-turn) ∙ passed .turn))
+        (walked-cons (part .step) [] (b .turn) (s .turn) (ap (moved (part .step)) (copying .same-turn) ∙ passed .turn))
 
     pub copying-takes : (f : Refusal) → Err f ≡ verdict (part .step) (b .turn) (tape-meaning .room b) → ⊥
     copying-takes f e =
@@ -69,9 +69,9 @@ module _ (bs : List ℕ) (a : Tape) (r : Reader) (b : Tape) (copying : Copying b
       ran = ran-join tape-meaning (copying .done) (part .step ∷ []) a b c (copying .ran) one;
       same-turn = ran-turn tape-meaning (part .step) b c one ∙ grind (arith, goes-part .rest);
       spare =
-        let tape : length (s .tape .now) ≡ length bs = ap (λ l. length (l .now)) (passed .tape) ∙ ap length (copying .through .tape) in
-        let left : length bs - r .place ≡ length (encode (part .step)) + (length bs - s .place) = omega (arith, s .within, passed .next) in
-        spare-more b c (part .step) (length bs - s .place) (subst (Spare b) left (copying .spare)) one;
+          let tape : length (s .tape .now) ≡ length bs = ap (λ l. length (l .now)) (passed .tape) ∙ ap length (copying .through .tape) in
+          let left : length bs - r .place ≡ length (encode (part .step)) + (length bs - s .place) = omega (arith, s .within, passed .next) in
+          spare-more b c (part .step) (length bs - s .place) (subst (Spare b) left (copying .spare)) one;
     }
 
   pub copying-all : (s : Reader) (buffer : List ℕ) → Asked r (Ok None) s → Opened buffer a → b .buffer .now ≡ bs ++ drop (length bs) buffer

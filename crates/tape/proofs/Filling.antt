@@ -34,7 +34,7 @@ spare-more a b p n spare ran =
     let gains : Gains a (p ∷ []) b = ran .gains in
     let used : b .used ≡ a .used + length (encode p) = gains .used ∙ ap (λ bs. a .used + length bs) (append-nil (encode p)) in
     let same : length (b .buffer .now) ≡ length (a .buffer .now) =
-          ap length (gains .bytes) ∙ length-written (a .buffer .now) (a .used) (joined encode (p ∷ [])) (b .used) (gains .used) (omega arith) in
+    ap length (gains .bytes) ∙ length-written (a .buffer .now) (a .used) (joined encode (p ∷ [])) (b .used) (gains .used) (omega arith) in
     omega arith
 
 -- a new tape on which steps were written holds their commands, and then what was there

@@ -114,11 +114,11 @@ through-more bs done a part b th asked = by-way (way a (Ok (Some part)) b asked)
                 stop = read 0 (b .turn) (drop (b .place) bs) .stop;
               });
           front =
-            joined-more done (part .step)
-            ∙ (λ i. th .front i ++ sym (passed .bytes) i)
-            ∙ ap (λ l. take (a .place) bs ++ l) (passed .there ∙ ap (λ l. take (length (encode (part .step))) (drop (a .place) l)) (th .tape))
-            ∙ sym (take-add (a .place) (length (encode (part .step))) bs)
-            ∙ ap (λ n. take n bs) (sym (passed .next));
+              joined-more done (part .step)
+              ∙ (λ i. th .front i ++ sym (passed .bytes) i)
+              ∙ ap (λ l. take (a .place) bs ++ l) (passed .there ∙ ap (λ l. take (length (encode (part .step))) (drop (a .place) l)) (th .tape))
+              ∙ sym (take-add (a .place) (length (encode (part .step))) bs)
+              ∙ ap (λ n. take n bs) (sym (passed .next));
         }
 
 -- what is left of the tape decides what it reads as

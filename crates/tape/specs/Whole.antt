@@ -70,8 +70,8 @@ pub record Commands (ps : List Step) (bs : List ℕ) : Type 0 where
 abbrev pub write-verdict : List Step → ℕ → Result ℕ Refusal
 write-verdict ps space =
     elim (walked ps Bare) [
-      Ok _ ↦ cond (ltb space (length (joined encode ps) + longest-command)) (Err NoRoom) (Ok (length (joined encode ps)))
-    | Err f ↦ Err f
+      | Ok _ ↦ cond (ltb space (length (joined encode ps) + longest-command)) (Err NoRoom) (Ok (length (joined encode ps)))
+      | Err f ↦ Err f
     ]
 
 -- the buffer begins with the tape and is otherwise as it was, or nothing has changed

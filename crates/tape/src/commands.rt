@@ -21,7 +21,7 @@ pub struct Command {
 
 impl Command {
     // The command of a step.
-    pub fn of(step: Step) -> Command
+    pub(crate) fn of(step: Step) -> Command
         ensures is { λ r. ⌜ r ≡ command-of step ⌝ }
         ensures fit { λ r. ⌜ fits r ≡ true ⌝ }
     {
@@ -44,7 +44,7 @@ impl Command {
     }
 
     // The step of a command.
-    pub fn step(self) -> Step
+    pub(crate) fn step(self) -> Step
         requires { ⌜ fits self ≡ true ⌝ }
         ensures { λ r. ⌜ r ≡ step-of self ⌝ }
     {
@@ -89,14 +89,14 @@ impl Command {
     }
 
     // How many bytes it takes.
-    pub fn size(self) -> usize
+    pub(crate) fn size(self) -> usize
         ensures { λ r. ⌜ r ≡ size self ⌝ }
     {
         self.opcode.first_width() + self.opcode.second_width() + 1
     }
 
     // One of its bytes.
-    pub fn byte(self, i: usize) -> u8
+    pub(crate) fn byte(self, i: usize) -> u8
         requires { ⌜ i < size self ⌝ }
         ensures { λ r. ⌜ r ≡ getD (bytes-of self) i 0 ⌝ }
     {
@@ -120,7 +120,7 @@ fn byte_of(number: u64, i: usize) -> u8
 }
 
 // The number that at most eight bytes write, low byte first.
-pub fn number(bytes: &[u8]) -> u64
+pub(crate) fn number(bytes: &[u8]) -> u64
     requires { ⌜ length (now bytes) ≤ 8 ⌝ }
     ensures is { λ r. ⌜ r ≡ value (now (bytes .entry)) ⌝ }
     ensures again { λ r. ⌜ little (length (now (bytes .entry))) r ≡ now (bytes .entry) ⌝ }

@@ -17,14 +17,14 @@ pub enum Opcode {
 
 impl Opcode {
     // The command's first byte.
-    pub fn byte(self) -> u8
+    pub(crate) fn byte(self) -> u8
         ensures { λ r. ⌜ r ≡ first-byte self ⌝ }
     {
         self as u8
     }
 
     // The command that begins with this byte, if any does.
-    pub fn at(byte: u8) -> Option<Opcode>
+    pub(crate) fn at(byte: u8) -> Option<Opcode>
         ensures { λ r. ⌜ r ≡ opcode-at byte ⌝ }
     {
         match byte {
@@ -42,7 +42,7 @@ impl Opcode {
     }
 
     // The bytes of the first operand.
-    pub fn first_width(self) -> usize
+    pub(crate) fn first_width(self) -> usize
         ensures { λ r. ⌜ r ≡ first-width self ⌝ }
     {
         match self {
@@ -53,7 +53,7 @@ impl Opcode {
     }
 
     // The bytes of the second operand, or 0 where there is none.
-    pub fn second_width(self) -> usize
+    pub(crate) fn second_width(self) -> usize
         ensures { λ r. ⌜ r ≡ second-width self ⌝ }
     {
         match self {

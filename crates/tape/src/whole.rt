@@ -18,10 +18,9 @@ use crate::errors::RewriteError;
 use crate::errors::RewriteErrorFromFault;
 use crate::limits::LONGEST_COMMAND;
 use crate::readers::Fault;
-use crate::readers::reads::open_reader;
+use crate::readers::Reader;
 use crate::tapes::Tape;
 use crate::tapes::emits::TapeEmitter;
-use crate::tapes::emits::open_tape;
 use machine::emitters::Emitter;
 use machine::refusals::Refusal;
 use machine::steps::Step;
@@ -32,7 +31,7 @@ use std::alloc::Global;
 pub fn check_tape(tape: &[u8]) -> Result<(), Fault>
     ensures { λ r. ⌜ r ≡ checked (tape-reads (now (tape .entry))) ⌝ }
 {
-    let mut reader = open_reader(tape);
+    let mut reader = Reader::open(tape);
     while let Some(_) = reader.next_command()? {}
     Ok(())
 }
@@ -43,7 +42,7 @@ pub fn read_tape(heap: Global, tape: &[u8]) -> Result<Vec<Step>, ReadError>
     ensures round { λ r. ⌜ ((ps : List Step) → Commands ps (now (tape .entry)) → ReadAs ps r) ⌝ }
 {
     let mut steps = Vec::new(heap);
-    let mut reader = open_reader(tape);
+    let mut reader = Reader::open(tape);
     while let Some(part) = reader.next_command()? {
         steps.push(part.step)?;
     }
@@ -82,7 +81,7 @@ pub fn write_tape(steps: &[Step], buffer: &mut [u8]) -> Result<usize, Refusal>
     if !leaves_spare(steps, buffer.len()) {
         return Err(Refusal::NoRoom);
     }
-    let mut tape = open_tape(buffer);
+    let mut tape = Tape::open(buffer);
     for step in steps {
         match tape.take(*step) {
             Ok(()) => {}
@@ -101,8 +100,8 @@ pub fn rewrite_tape(tape: &[u8], buffer: &mut [u8]) -> Result<usize, RewriteErro
     if buffer.len() < tape.len() + LONGEST_COMMAND {
         return Err(RewriteError::Write(Refusal::NoRoom));
     }
-    let mut copy = open_tape(buffer);
-    let mut reader = open_reader(tape);
+    let mut copy = Tape::open(buffer);
+    let mut reader = Reader::open(tape);
     // neither refuses now: the tape was read through, and there is space for all of it
     while let Some(part) = reader.next_command()? {
         match copy.take(part.step) {

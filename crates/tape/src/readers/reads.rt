@@ -16,17 +16,6 @@ use machine::refusals::Refusal;
 use machine::steps::Step;
 use machine::turns::Turn;
 
-// A reader at the first byte of a tape.
-pub fn open_reader<'a>(tape: &'a [u8]) -> Reader<'a>
-    ensures { λ r. ⌜ Began (tape .entry) r ⌝ }
-{
-    Reader {
-        tape,
-        place: 0,
-        turn: Turn::Bare,
-    }
-}
-
 // The step whose command the bytes begin with.
 fn first_step(bytes: &[u8]) -> Result<Step, Refusal>
     requires { ⌜ 0 < length (now bytes) ⌝ }
@@ -51,6 +40,17 @@ fn first_step(bytes: &[u8]) -> Result<Step, Refusal>
 }
 
 impl<'a> Reader<'a> {
+    // A reader at the first byte of a tape.
+    pub fn open(tape: &'a [u8]) -> Reader<'a>
+        ensures { λ r. ⌜ Began (tape .entry) r ⌝ }
+    {
+        Reader {
+            tape,
+            place: 0,
+            turn: Turn::Bare,
+        }
+    }
+
     // The next command, or none at the tape's end. After a refusal the reader is still where it was.
     pub fn next_command(&mut self) -> Result<Option<Part<'a>>, Fault>
         ensures { λ r. ⌜ Asked (now (self .entry)) r (now (self .exit)) ⌝ }

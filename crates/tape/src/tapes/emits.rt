@@ -18,18 +18,18 @@ use machine::refusals::Refusal;
 use machine::steps::Step;
 use machine::turns::Turn;
 
-// A new tape, with nothing on it.
-pub fn open_tape<'a>(buffer: &'a mut [u8]) -> Tape<'a>
-    ensures { λ r. ⌜ Opened (now (buffer .entry)) r ⌝ ∗ ⌜ name (r .buffer) ≡ name (buffer .entry) ⌝ }
-{
-    Tape {
-        buffer,
-        used: 0,
-        turn: Turn::Bare,
-    }
-}
-
 impl<'a> Tape<'a> {
+    // A new tape, with nothing on it.
+    pub fn open(buffer: &'a mut [u8]) -> Tape<'a>
+        ensures { λ r. ⌜ Opened (now (buffer .entry)) r ⌝ ∗ ⌜ name (r .buffer) ≡ name (buffer .entry) ⌝ }
+    {
+        Tape {
+            buffer,
+            used: 0,
+            turn: Turn::Bare,
+        }
+    }
+
     // The bytes used so far: the tape itself.
     pub fn bytes(&self) -> &[u8]
         ensures { λ r. ⌜ now r ≡ take (now (self .entry) .used) (now (self .entry) .buffer .now) ⌝ }

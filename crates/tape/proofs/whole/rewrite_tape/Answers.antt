@@ -24,12 +24,12 @@ unreachable-requires c κs =
 
 pub returns : need.returns
 returns c =
-    let opened = c .open-tape-copy .ensures .0 in
-    let lent = c .open-tape-copy .ensures .1 in
+    let opened = c .open-copy .ensures .0 in
+    let lent = c .open-copy .ensures .1 in
     let kept = c .loop-part .inv .ran .gains .lent in
     let bytes =
-          copying-all (c .args .tape .now) _ _ (c .loop-part .copy) (c .loop-part .inv) _ (c .args .buffer .now)
-            (asked-as _ _ _ _ (c .in-rest .is) (c .in-Continue-part .ensures tt)) opened in
+    copying-all (c .args .tape .now) _ _ (c .loop-part .copy) (c .loop-part .inv) _ (c .args .buffer .now)
+    (asked-as _ _ _ _ (c .in-rest .is) (c .in-Continue-part .ensures tt)) opened in
     record {
       answer = rewritten-answer (tape-reads (c .args .tape .now)) _ _ (c .in-Continue-check-tape .ensures tt) (omega arith);
       bytes = search (needs, bytes, lent, kept);

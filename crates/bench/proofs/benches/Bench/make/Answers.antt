@@ -7,7 +7,7 @@ use Rattle.std.proofs.shelf.Ways.{tells}
 use Rattle.machine.specs.declared.words.Word.{Word}
 use Rattle.bench.specs.Cells.{cell-count}
 use Rattle.bench.proofs.Words.{words-past}
-use Rattle.bench.proofs.benches.opens.make_bench.Needs as need
+use Rattle.bench.proofs.benches.Bench.make.Needs as need
 
 pub returns : need.returns
 returns g c =

@@ -1,7 +1,7 @@
 use mathlib.Core.Path.{refl}
 use native.Mathlib.Omega.{arith}
 use Rattle.tape.specs.Readings.{read}
-use Rattle.tape.proofs.tapes.emits.open_tape.Needs as need
+use Rattle.tape.proofs.tapes.Tape.open.Needs as need
 
 pub ghost-result : need.ghost-result
 unfolding read
