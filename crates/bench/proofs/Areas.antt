@@ -16,9 +16,9 @@ module _ (w : ℕ → Word) (first n : ℕ) where
       let at : (k : ℕ) → area (put j x w) first n k ≡ put i x (area w first n) k = λ k. grind (arith, tells) in
       λ l k. at k l
 
-  pub area-wiped : area (wiped first n w) first n ≡ blank
-  area-wiped =
-      let at : (k : ℕ) → area (wiped first n w) first n k ≡ blank k = λ k. grind (arith, tells) in
+  pub area-wiped : (from m : ℕ) → from ≤ first → first + n ≤ from + m → area (wiped from m w) first n ≡ blank
+  area-wiped from m begins ends =
+      let at : (k : ℕ) → area (wiped from m w) first n k ≡ blank k = λ k. grind (arith, tells) in
       λ l k. at k l
 
   pub area-copied : (from : ℕ) → area (copied from first n w) first n ≡ area w from n

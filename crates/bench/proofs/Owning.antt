@@ -1,19 +1,25 @@
 -- Cells that are made their own origins one by one. Assumes nothing.
 use Prim.Native.Nat.{ℕ, _+_, _<_, _≤_}
-use mathlib.Core.Path.{_≡_, _∙_}
+use mathlib.Core.Path.{_≡_, ap, _∙_}
 use mathlib.Core.Logic.{inl, inr}
 use mathlib.Core.List.{List}
+use native.Mathlib.Nat.{zero-add}
 use native.Mathlib.Omega.{arith}
 use borrow.Author.Count.{below-more}
 use lib.ListN.{getD, length, set}
 use Rattle.std.proofs.shelf.Edits.{fill-by-more}
-use Rattle.std.proofs.shelf.Lists.{getD-past, getD-set-other, getD-set-same}
+use Rattle.std.proofs.shelf.Lists.{getD-map, getD-past, getD-set-other, getD-set-same}
 use Rattle.std.proofs.shelf.Tests.{cases-lt}
 use Rattle.std.proofs.shelf.Ways.{tells}
 use Rattle.std.specs.declared.result.Result.the-variants.{Ok}
 use Rattle.machine.specs.Limits.{local-slots, registers}
-use Rattle.bench.specs.Cells.{cell-count, first-local, first-outgoing, judged-cells}
-use Rattle.bench.specs.Origins.{Own}
+use Rattle.machine.specs.States.{below, blank}
+use Rattle.machine.specs.Words.{Start}
+use Rattle.machine.specs.declared.turns.Turn.the-variants.{Bare}
+use Rattle.machine.specs.declared.words.Word.{Word}
+use Rattle.machine.specs.declared.words.Word.the-variants.{Unknown as no-word}
+use Rattle.bench.specs.Cells.{area, cell-count, first-local, first-outgoing, judged-cells, words}
+use Rattle.bench.specs.Origins.{Own, origin-stands}
 use Rattle.bench.specs.declared.origins.Origin.{Origin}
 use Rattle.bench.specs.declared.origins.Origin.the-variants.{Unknown, Register, Local}
 
@@ -50,9 +56,28 @@ module _ (cells : List Origin) where
       rest = below-more (λ k. first-outgoing ≤ k → getD (set cells n Unknown) k Unknown ≡ Unknown) n (λ k m q. getD-set-other cells n k Unknown Unknown (omega arith) ∙ o .rest k m q) (λ q. getD-set-same cells n Unknown Unknown h);
     }
 
-  pub owning-all : (end : ℕ) → length cells ≤ end → Owning registers local-slots end cells → Own cells
-  owning-all end h o = record {
+  -- own origins stand for the words of their start
+  module _ (whole : length cells ≡ cell-count) (s : Start) where
+    own-area : (first n : ℕ) (f : ℕ → Word) → first + n ≤ cell-count → ((i : ℕ) → i < n → origin-stands (getD cells (first + i) Unknown) s ≡ f i) → area (words (λ c. origin-stands c s) cells) first n ≡ below n f
+    own-area first n f inside own =
+        let at : (k : ℕ) → area (words (λ c. origin-stands c s) cells) first n k ≡ below n f k =
+        λ k. elim (cases-lt k n) [
+          | inl l ↦ let word = getD-map (λ c. origin-stands c s) cells (first + k) Unknown no-word (omega arith) in grind (arith, tells, word, own k l)
+          | inr l ↦ grind (arith, tells)
+        ] in
+        λ i k. at k i
+
+  pub owning-all : (end : ℕ) → length cells ≤ end → length cells ≡ cell-count → Owning registers local-slots end cells → Own cells
+  owning-all end h whole o = record {
     register = o .register;
     local = o .local;
     rest = λ i l. elim (cases-lt i end) [ inl m ↦ o .rest i m l | inr m ↦ getD-past cells i Unknown (omega arith) ];
+    state = λ s i. record {
+      register = own-area whole s 0 registers (s .register) (omega arith) (λ k l. ap (λ c. origin-stands c s) (ap (λ n. getD cells n Unknown) (zero-add k) ∙ o .register k l)) i;
+      local = own-area whole s first-local local-slots (s .local) (omega arith) (λ k l. ap (λ c. origin-stands c s) (o .local k l)) i;
+      outgoing = blank;
+      turn = Bare;
+      calls = 0;
+      seen = record { routine = 0; register = blank; outgoing = blank };
+    };
   }

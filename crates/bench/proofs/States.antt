@@ -1,18 +1,18 @@
 -- The state of a bench whose words were rewritten. Assumes nothing.
-use Prim.Native.Nat.{ℕ, _+_, _<_, _≤_}
+use Prim.Native.Nat.{ℕ, _+_, _-_, _<_, _≤_}
 use mathlib.Core.Path.{_≡_, ap, _∙_}
 use mathlib.Core.Logic.{inl, inr}
 use native.Mathlib.Omega.{arith}
 use Rattle.machine.specs.Effects.{effect, lose}
 use Rattle.machine.specs.Limits.{local-slots, outgoing-slots, registers}
-use Rattle.machine.specs.States.{State, put}
+use Rattle.machine.specs.States.{State, blank, put}
 use Rattle.machine.specs.Turns.{turn-called}
 use Rattle.machine.specs.declared.places.RegisterSet.{RegisterSet}
 use Rattle.machine.specs.declared.steps.Step.the-variants.{Call, Reserve}
 use Rattle.machine.specs.declared.turns.Turn.{Turn}
-use Rattle.machine.specs.declared.turns.Turn.the-variants.{Reserved}
+use Rattle.machine.specs.declared.turns.Turn.the-variants.{Bare, Reserved}
 use Rattle.machine.specs.declared.words.Word.{Word}
-use Rattle.bench.specs.Cells.{area, call-words, copied, first-local, first-outgoing, first-seen-outgoing, first-seen-register, state-of, wiped}
+use Rattle.bench.specs.Cells.{area, call-words, cell-count, copied, first-local, first-outgoing, first-seen-outgoing, first-seen-register, loaded, state-of, wiped}
 use Rattle.bench.proofs.Areas.{area-copied, area-lose, area-put, area-wiped, copied-elsewhere, lose-elsewhere, put-elsewhere, wiped-elsewhere}
 
 module _ (w : ℕ → Word) (t : Turn) (calls routine : ℕ) where
@@ -62,7 +62,7 @@ module _ (w : ℕ → Word) (t : Turn) (calls routine : ℕ) where
   reserved b = λ i. record {
     register = wiped-elsewhere w 0 registers first-outgoing outgoing-slots (inr (omega arith)) i;
     local = wiped-elsewhere w first-local local-slots first-outgoing outgoing-slots (inr (omega arith)) i;
-    outgoing = area-wiped w first-outgoing outgoing-slots i;
+    outgoing = area-wiped w first-outgoing outgoing-slots first-outgoing outgoing-slots (omega arith) (omega arith) i;
     turn = Reserved b;
     calls = calls;
     seen = record {
@@ -82,7 +82,7 @@ module _ (w : ℕ → Word) (t : Turn) (calls routine : ℕ) where
       λ i. record {
         register = (area-lose z (m .0) ∙ ap (lose (m .0)) (front 0 registers (omega arith))) i;
         local = (lose-elsewhere z first-local local-slots (m .0) (omega arith) ∙ front first-local local-slots (omega arith)) i;
-        outgoing = (lose-elsewhere z first-outgoing outgoing-slots (m .0) (omega arith) ∙ area-wiped u first-outgoing outgoing-slots) i;
+        outgoing = (lose-elsewhere z first-outgoing outgoing-slots (m .0) (omega arith) ∙ area-wiped u first-outgoing outgoing-slots first-outgoing outgoing-slots (omega arith) (omega arith)) i;
         turn = turn-called t;
         calls = calls + 1;
         seen = record {
@@ -91,3 +91,21 @@ module _ (w : ℕ → Word) (t : Turn) (calls routine : ℕ) where
           outgoing = (lose-elsewhere z first-seen-outgoing outgoing-slots (m .0) (omega arith) ∙ wiped-elsewhere u first-seen-outgoing outgoing-slots first-outgoing outgoing-slots (inl (omega arith)) ∙ area-copied v first-seen-outgoing outgoing-slots first-outgoing ∙ copied-elsewhere w first-outgoing outgoing-slots 0 first-seen-register registers (inr (omega arith))) i;
         };
       }
+
+-- a new bench: all cells from the first outgoing slot on were wiped
+pub opened : (w : ℕ → Word) → state-of (wiped first-outgoing (cell-count - first-outgoing) w) Bare 0 0 ≡ loaded w
+opened w =
+    let blanks : (first n : ℕ) → first-outgoing ≤ first → first + n ≤ cell-count → area (wiped first-outgoing (cell-count - first-outgoing) w) first n ≡ blank =
+    λ first n from to. area-wiped w first n first-outgoing (cell-count - first-outgoing) from (omega arith) in
+    λ i. record {
+      register = wiped-elsewhere w 0 registers first-outgoing (cell-count - first-outgoing) (inr (omega arith)) i;
+      local = wiped-elsewhere w first-local local-slots first-outgoing (cell-count - first-outgoing) (inr (omega arith)) i;
+      outgoing = blanks first-outgoing outgoing-slots (omega arith) (omega arith) i;
+      turn = Bare;
+      calls = 0;
+      seen = record {
+        routine = 0;
+        register = blanks first-seen-register registers (omega arith) (omega arith) i;
+        outgoing = blanks first-seen-outgoing outgoing-slots (omega arith) (omega arith) i;
+      };
+    }

@@ -12,7 +12,7 @@ use Rattle.machine.specs.declared.steps.Step.{Step}
 use Rattle.machine.specs.declared.turns.Turn.the-variants.{Bare}
 use Rattle.machine.specs.declared.words.Word.the-variants.{Unknown}
 use Rattle.machine.specs.declared.words.Word.{Word}
-use Rattle.bench.specs.Cells.{bench-steps, first-outgoing, state-of, words}
+use Rattle.bench.specs.Cells.{bench-steps, first-outgoing, loaded, state-of, words}
 use Rattle.bench.specs.declared.benches.Bench.{Bench}
 
 -- the state is what the cells stand for, and the cells are still the lender's
@@ -32,9 +32,8 @@ bench-meaning stands = record {
 pub record Opened {W : Type 0} (stands : W → Start → Word) (cells : List W) (b : Bench W) : Type 0 where
   pub kept : take first-outgoing (b .cells .now) ≡ take first-outgoing cells
   pub rest : (s : Start) (i : ℕ) → first-outgoing ≤ i → words (λ c. stands c s) (b .cells .now) i ≡ Unknown
+  pub state : (s : Start) → bench-meaning stands .state b s ≡ loaded (words (λ c. stands c s) cells)
   pub turn : b .turn ≡ Bare
-  pub calls : b .calls ≡ 0
-  pub routine : b .routine ≡ 0
   pub taken : b .taken ≡ 0
 
 -- the cells were rewritten so that the words w that they stood for became f w, and nothing else changed

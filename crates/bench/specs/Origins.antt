@@ -8,7 +8,8 @@ use Rattle.std.specs.declared.result.Result.the-variants.{Ok, Err}
 use Rattle.machine.specs.Limits.{registers, local-slots}
 use Rattle.machine.specs.Words.{Start}
 use Rattle.machine.specs.declared.refusals.Refusal.{Refusal}
-use Rattle.bench.specs.Cells.{first-local, first-outgoing}
+use Rattle.bench.specs.Cells.{first-local, first-outgoing, loaded, words}
+use Rattle.machine.specs.States.{begin}
 use Rattle.machine.specs.declared.words.Word.{Word}
 use Rattle.machine.specs.declared.words.Word.the-variants.{Unknown as unknown-word, Number as number-word}
 use Rattle.bench.specs.declared.origins.Origin.{Origin}
@@ -25,6 +26,8 @@ pub record Own (cells : List Origin) : Type 0 where
   pub register : (r : ℕ) → r < registers → getD cells r Unknown ≡ Register (record { 0 = r })
   pub local : (n : ℕ) → n < local-slots → getD cells (first-local + n) Unknown ≡ Local (record { 0 = n })
   pub rest : (i : ℕ) → first-outgoing ≤ i → getD cells i Unknown ≡ Unknown
+  -- so a new bench on them is, from every start, at that start
+  pub state : (s : Start) → loaded (words (λ c. origin-stands c s) cells) ≡ begin s
 
 -- what the request for own origins did: all of it, or nothing
 abbrev pub OwnOrigins : Result (Unit {0}) Refusal → List Origin → List Origin → Type 0

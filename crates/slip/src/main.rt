@@ -1,14 +1,13 @@
-// A routine is to be called with two wheel speeds exchanged. The right list of steps and the old wrong one
-// go to a tape, are read back, and run on the trial wheel, on a slipping wheel and on origins.
+// A routine is to be called with two wheel speeds exchanged. The right list of steps and the old wrong
+// one go to a tape, are read back, and run on the trial wheel, on a slipping wheel and on origins.
 use bench::benches::Bench;
 use bench::benches::emits::BenchEmitter;
-use bench::benches::opens::check_cells;
-use bench::benches::opens::make_bench;
 use bench::benches::opens::own_origins;
 use bench::kinds::PlainWords;
 use bench::kinds::WordKind;
 use bench::limits::CELLS;
 use bench::origins::Origin;
+use bench::origins::OriginPartialEq;
 use bench::origins::Origins;
 use machine::emitters::give;
 use machine::places::Register;
@@ -16,6 +15,7 @@ use machine::places::RegisterSet;
 use machine::refusals::Refusal;
 use machine::steps::Step;
 use machine::words::Word;
+use machine::words::WordPartialEq;
 use std::alloc::AllocError;
 use std::alloc::Global;
 use std::error::AnyError;
@@ -24,32 +24,32 @@ use tape::errors::ReadError;
 use tape::whole::read_tape;
 use tape::whole::write_tape;
 
-// the routine, and the registers that its calls lose
+// the routine, and the registers that a call of it loses
 const ROUTINE: u32 = 7;
 
 const LOST: RegisterSet = RegisterSet(0x0000_0FC7);
-// the registers of the two speeds, and a third one
-const LEFT: Register = Register(6);
+// the registers of the two speeds, and one that holds a speed on the way
+const FIRST: Register = Register(6);
 
-const RIGHT: Register = Register(7);
+const SECOND: Register = Register(7);
 
-const SPARE: Register = Register(11);
-// enough for either tape, with ten bytes to spare
+const SCRATCH: Register = Register(11);
+// bytes enough for either tape, with ten to spare
 const BUFFER: usize = 64;
 
-// the right list: each speed goes to the other's register
-const RIGHT_STEPS: [Step; 4] = [
+// each speed goes to the other's register
+const RIGHT: [Step; 4] = [
     Step::Copy {
-        to: SPARE,
-        from: LEFT,
+        to: SCRATCH,
+        from: FIRST,
     },
     Step::Copy {
-        to: LEFT,
-        from: RIGHT,
+        to: FIRST,
+        from: SECOND,
     },
     Step::Copy {
-        to: RIGHT,
-        from: SPARE,
+        to: SECOND,
+        from: SCRATCH,
     },
     Step::Call {
         routine: ROUTINE,
@@ -58,14 +58,14 @@ const RIGHT_STEPS: [Step; 4] = [
 ];
 
 // the old list: one speed is copied over the other
-const WRONG_STEPS: [Step; 3] = [
+const WRONG: [Step; 3] = [
     Step::Copy {
-        to: LEFT,
-        from: RIGHT,
+        to: FIRST,
+        from: SECOND,
     },
     Step::Copy {
-        to: RIGHT,
-        from: LEFT,
+        to: SECOND,
+        from: FIRST,
     },
     Step::Call {
         routine: ROUTINE,
@@ -73,19 +73,56 @@ const WRONG_STEPS: [Step; 3] = [
     },
 ];
 
+// a wheel's two speeds, in millimetres a second
+#[derive(Clone, Copy)]
+struct Wheel {
+    first: u64,
+    second: u64,
+}
+
+const TRIAL: Wheel = Wheel {
+    first: 1200,
+    second: 1200,
+};
+
+const SLIPPING: Wheel = Wheel {
+    first: 1200,
+    second: 900,
+};
+
 // What the routine saw of the two speeds.
 #[derive(Clone, Copy)]
 struct Seen<W> {
     routine: u32,
-    left: W,
-    right: W,
+    first: W,
+    second: W,
+}
+
+// A step in words, a register or slot by its number.
+struct InWords(Step);
+
+impl fmt::Display for InWords as InWordsDisplay {
+    fn fmt<W: fmt::Write>(&self, f: &mut fmt::Formatter<W>) -> fmt::Result {
+        match self.0 {
+            Step::Copy {
+                to: Register(to),
+                from: Register(from),
+            } => write!(f, "copy {to} {from}"),
+            Step::Call { routine, lost: _ } => write!(f, "call {routine}"),
+            _ => write!(f, "another step"),
+        }
+    }
 }
 
 fn main(rt: LibcRuntime) -> Result<(), AnyError> {
-    rt.report(run(&rt))
+    rt.report(show(&rt))
 }
 
-fn run(rt: &LibcRuntime) -> Result<(), AnyError> {
-    println!(rt, "Routine 7 is to see the speeds of r6 and r7 exchanged.")?;
-    Ok(())
+fn show(rt: &LibcRuntime) -> Result<(), AnyError> {
+    println!(
+        rt,
+        "Routine {ROUTINE} is to see the speeds of registers 6 and 7 exchanged."
+    )?;
+    show_list(rt, "The right list", &RIGHT)?;
+    show_list(rt, "The old list", &WRONG)
 }

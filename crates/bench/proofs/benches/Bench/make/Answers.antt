@@ -7,6 +7,8 @@ use Rattle.std.proofs.shelf.Ways.{tells}
 use Rattle.machine.specs.declared.words.Word.{Word}
 use Rattle.bench.specs.Cells.{cell-count}
 use Rattle.bench.proofs.Words.{words-past}
+use Rattle.bench.specs.Cells.{state-of, words}
+use Rattle.bench.proofs.States.{opened}
 use Rattle.bench.proofs.benches.Bench.make.Needs as need
 
 pub returns : need.returns
@@ -18,9 +20,8 @@ returns g c =
           | inl l ↦ grind (arith, tells)
           | inr l ↦ let past = words-past (λ d. g .W·WordKind .stands d s) (c .args .cells .now) i (omega (arith, c .pre)) in grind (arith, tells, past)
         ];
+        state = λ s. (λ i. state-of (r .cells s i) (r .turn i) (r .calls i) (r .routine i)) ∙ opened (words (λ d. g .W·WordKind .stands d s) (c .args .cells .now));
         turn = r .turn;
-        calls = r .calls;
-        routine = r .routine;
         taken = r .taken;
       },
       r .lent,

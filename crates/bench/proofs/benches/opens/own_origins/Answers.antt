@@ -20,4 +20,4 @@ loop-i-3-again c =
 pub returns : need.returns
 returns c =
     let whole = count-passed _ (c .in-Continue-check .ensures tt) in
-    (c .in-Continue-check .ensures tt, owning-all (c .loop-i-3 .cells) _ (omega arith) (c .loop-i-3 .inv))
+    (c .in-Continue-check .ensures tt, owning-all (c .loop-i-3 .cells) _ (omega arith) (omega arith) (c .loop-i-3 .inv))
