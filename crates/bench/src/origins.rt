@@ -7,6 +7,7 @@ use machine::places::LocalSlotPartialEq;
 use machine::places::Register;
 use machine::places::RegisterDebug;
 use machine::places::RegisterPartialEq;
+use std::fmt;
 
 // the word of the start's register or local slot, a number, or unknown
 #[derive(Clone, Copy, PartialEq, Eq, Debug)]
@@ -26,5 +27,16 @@ pub impl WordKind for Origin as Origins {
 
     fn unknown() -> Origin {
         Origin::Unknown
+    }
+}
+
+pub impl fmt::Display for Origin as OriginDisplay {
+    fn fmt<W: fmt::Write>(&self, f: &mut fmt::Formatter<W>) -> fmt::Result {
+        match *self {
+            Origin::Unknown => write!(f, "?"),
+            Origin::Register(Register(register)) => write!(f, "r{register}"),
+            Origin::Local(LocalSlot(slot)) => write!(f, "l{slot}"),
+            Origin::Number(number) => write!(f, "k{number}"),
+        }
     }
 }

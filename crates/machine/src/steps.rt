@@ -15,6 +15,7 @@ use crate::places::RegisterSet;
 use crate::places::RegisterSetDebug;
 use crate::places::RegisterSetPartialEq;
 use crate::turns::Turn;
+use std::fmt;
 
 #[derive(Clone, Copy, PartialEq, Eq, Debug)]
 pub enum Step {
@@ -48,6 +49,41 @@ impl Step {
                 routine: _,
                 lost: _,
             } => true,
+        }
+    }
+}
+
+// The step's name, then its operands in the order in which a tape has them; a call's lost set is left out.
+pub impl fmt::Display for Step as StepDisplay {
+    fn fmt<W: fmt::Write>(&self, f: &mut fmt::Formatter<W>) -> fmt::Result {
+        match *self {
+            Step::Copy {
+                to: Register(to),
+                from: Register(from),
+            } => write!(f, "copy {to} {from}"),
+            Step::Set {
+                to: Register(to),
+                number,
+            } => write!(f, "set {to} {number}"),
+            Step::Fetch {
+                to: Register(to),
+                from: LocalSlot(from),
+            } => write!(f, "fetch {to} {from}"),
+            Step::Back {
+                to: Register(to),
+                from: OutgoingSlot(from),
+            } => write!(f, "back {to} {from}"),
+            Step::Store {
+                to: OutgoingSlot(to),
+                from: Register(from),
+            } => write!(f, "store {to} {from}"),
+            Step::Keep {
+                to: LocalSlot(to),
+                from: Register(from),
+            } => write!(f, "keep {to} {from}"),
+            Step::Reserve { bytes } => write!(f, "reserve {bytes}"),
+            Step::Call { routine, lost: _ } => write!(f, "call {routine}"),
+            Step::Pop { bytes } => write!(f, "pop {bytes}"),
         }
     }
 }
