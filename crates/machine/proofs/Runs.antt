@@ -37,7 +37,6 @@ module _ {E : Type 0} (m : Meaning E) where
     state = λ s. refl;
     taken = omega arith;
     room-left = omega arith;
-    room-used = omega arith;
     gains = m .gains-none a;
   }
 
@@ -46,7 +45,6 @@ module _ {E : Type 0} (m : Meaning E) where
     state = λ s. back .state s ∙ ap (run qs) (front .state s) ∙ sym (run-append ps qs (m .state a s));
     taken = omega (arith, length-append ps qs, front .taken, back .taken);
     room-left = omega (arith, length-append ps qs, front .room-left, back .room-left);
-    room-used = omega (arith, front .room-used, back .room-used);
     gains = m .gains-more a b c ps qs (front .gains) (back .gains);
   }
 

@@ -34,7 +34,6 @@ pub record Ran {E : Type 0} (m : Meaning E) (ps : List Step) (a b : E) : Type 0 
   pub state : (s : Start) → m .state b s ≡ run ps (m .state a s)
   pub taken : m .taken b ≡ m .taken a + length ps
   pub room-left : m .room a ≤ m .room b + length ps
-  pub room-used : m .room b ≤ m .room a
   pub gains : m .gains a ps b
 
 -- what a request did to the emitter: all of the steps, or nothing at all

@@ -2,6 +2,7 @@
 // number is in range is asked where a step or an argument is judged.
 ghost use mathlib.Core.Path.{_≡_};
 ghost use Rattle.machine.specs.Places.{holds};
+use crate::limits::REGISTERS;
 
 // a register's number
 #[derive(Clone, Copy, PartialEq, Eq, Debug)]
@@ -23,6 +24,6 @@ impl RegisterSet {
     pub fn contains(self, register: Register) -> bool
         ensures { λ r. ⌜ r ≡ holds (self .0) (register .0) ⌝ }
     {
-        register.0 < 32 && (self.0 >> register.0) % 2 == 1
+        register.0 < REGISTERS && (self.0 >> register.0) % 2 == 1
     }
 }

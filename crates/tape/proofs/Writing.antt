@@ -140,7 +140,6 @@ module _ (a : Tape) (p : Step) (u : Turn) (fit : fits (command-of p) ≡ true) (
         state = λ s. ap (λ ps. run ps (begin s)) steps ∙ run-append (tape-steps a) (p ∷ []) (begin s);
         taken = ap length steps ∙ length-append (tape-steps a) (p ∷ []);
         room-left = omega arith;
-        room-used = omega arith;
         gains = record {
           lent = lent;
           steps = steps;

@@ -6,6 +6,5 @@ returns g c = record {
   state = λ s. rw (c .pre .next) (c .act .ensures .state s);
   taken = c .act .ensures .taken;
   room-left = omega (arith, c .act .ensures .taken, c .pre .room);
-  room-used = omega (arith, c .act .ensures .taken);
   gains = c .act .ensures .lent;
 }
