@@ -1,18 +1,15 @@
 -- Giving a list whose walk is not refused, with room for all of it. Assumes nothing.
 use mathlib.Core.Path.{_≡_, refl, sym, ap, subst, _∙_}
-use mathlib.Core.List.{List, [], _∷_, _++_}
-use mathlib.Core.Bool.{true, false}
-use mathlib.Core.Logic.{inl, inr}
+use mathlib.Core.List.{List, [], _∷_}
 use Prim.Native.Nat.{ℕ, _+_, _<_, _≤_}
 use native.Mathlib.Omega.{arith}
 use lib.ListN.{length, take, drop, getD}
 use lib.Seq.{take-all}
 use Rattle.std.proofs.shelf.Lists.{at-drop-more, take-more}
-use Rattle.std.proofs.shelf.Tests.{cases-bool}
 use Rattle.std.proofs.shelf.Ways.{tells}
 use Rattle.std.specs.declared.result.Result.the-variants.{Ok, Err}
-use Rattle.machine.specs.Turns.{in-range, in-turn, moved, turn-after, verdict, walked}
-use Rattle.machine.specs.Emitters.{Gave, Meaning, Ran, list-verdict}
+use Rattle.machine.specs.Turns.{verdict, walked}
+use Rattle.machine.specs.Emitters.{Gave, Meaning, Ran}
 use Rattle.machine.specs.declared.refusals.Refusal.{Refusal}
 use Rattle.machine.specs.declared.refusals.Refusal.the-variants.{NoRoom}
 use Rattle.machine.specs.declared.steps.Step.{Step}

@@ -1,9 +1,9 @@
 -- Runs joined end to end, and the turn that a run leaves. Assumes nothing.
-use mathlib.Core.Path.{_≡_, refl, sym, ap, subst, _∙_}
+use mathlib.Core.Path.{_≡_, refl, sym, ap, _∙_}
 use mathlib.Core.List.{List, [], _∷_, _++_}
-use Prim.Native.Nat.{ℕ, _+_}
+use Prim.Native.Nat.{_+_}
 use native.Mathlib.Omega.{arith}
-use lib.ListN.{length, length-append}
+use lib.ListN.{length-append}
 use Rattle.machine.specs.Words.{Start}
 use Rattle.machine.specs.States.{State, blank}
 use Rattle.machine.specs.Turns.{turn-after}

@@ -1,6 +1,6 @@
 -- What each step does to a state. Assumes nothing.
 use Prim.Native.Nat.{ℕ, _+_}
-use mathlib.Core.Bool.{Bool, cond}
+use mathlib.Core.Bool.{cond}
 use mathlib.Core.List.{List, [], _∷_}
 use Rattle.machine.specs.Places.{holds}
 use Rattle.machine.specs.States.{State, put, blank}
@@ -8,7 +8,7 @@ use Rattle.machine.specs.Turns.{turn-called}
 use Rattle.machine.specs.declared.words.Word.{Word}
 use Rattle.machine.specs.declared.words.Word.the-variants.{Unknown, Number}
 use Rattle.machine.specs.declared.turns.Turn.{Turn}
-use Rattle.machine.specs.declared.turns.Turn.the-variants.{Bare, Reserved, Called}
+use Rattle.machine.specs.declared.turns.Turn.the-variants.{Bare, Reserved}
 use Rattle.machine.specs.declared.steps.Step.{Step}
 use Rattle.machine.specs.declared.steps.Step.the-variants.{Copy, Set, Fetch, Back, Store, Keep, Reserve, Call, Pop}
 

@@ -5,9 +5,9 @@ use lib.Dec.{eqb, ltb}
 use Rattle.machine.specs.Limits.{registers, local-slots}
 use Rattle.machine.specs.Words.{Start}
 use Rattle.machine.specs.declared.words.Word.{Word}
-use Rattle.machine.specs.declared.words.Word.the-variants.{Unknown, Number}
+use Rattle.machine.specs.declared.words.Word.the-variants.{Unknown}
 use Rattle.machine.specs.declared.turns.Turn.{Turn}
-use Rattle.machine.specs.declared.turns.Turn.the-variants.{Bare, Reserved, Called}
+use Rattle.machine.specs.declared.turns.Turn.the-variants.{Bare}
 
 -- what the latest call step found
 pub record Seen : Type 0 where

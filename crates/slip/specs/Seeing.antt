@@ -5,7 +5,6 @@ use mathlib.Core.List.{List}
 use Rattle.std.specs.declared.result.Result.{Result}
 use Rattle.std.specs.declared.result.Result.the-variants.{Ok, Err}
 use Rattle.machine.specs.Words.{Start}
-use Rattle.machine.specs.States.{State}
 use Rattle.machine.specs.Effects.{run}
 use Rattle.machine.specs.declared.refusals.Refusal.{Refusal}
 use Rattle.machine.specs.declared.steps.Step.{Step}

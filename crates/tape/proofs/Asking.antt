@@ -4,7 +4,6 @@ use mathlib.Core.Bool.{true, false, cond}
 use mathlib.Core.List.{List, [], _∷_}
 use Prim.Native.Nat.{ℕ, _+_, _-_, _<_, _≤_}
 use native.Mathlib.Omega.{arith}
-use lib.Dec.{ltb}
 use lib.ListN.{length, take, drop}
 use Rattle.std.proofs.shelf.Lists.{drop-all, length-drop, length-take, take-rest}
 use Rattle.std.proofs.shelf.Tests.{cases-eq, cond-false, cond-true, le-ltb, lt-ltb}
@@ -16,10 +15,9 @@ use Rattle.machine.specs.declared.refusals.Refusal.{Refusal}
 use Rattle.machine.specs.declared.refusals.Refusal.the-variants.{OutOfTurn, TooLong}
 use Rattle.machine.specs.declared.steps.Step.{Step}
 use Rattle.machine.specs.declared.turns.Turn.{Turn}
-use Rattle.machine.specs.declared.turns.Turn.the-variants.{Bare}
 use Rattle.tape.specs.Limits.{tape-limit}
 use Rattle.tape.specs.Commands.{encode, first-step}
-use Rattle.tape.specs.Readers.{Asked, Commanded, answer-at, fault, next-step, step-in}
+use Rattle.tape.specs.Readers.{Asked, Commanded, answer-at, fault, next-step}
 use Rattle.tape.specs.declared.readers.Part.{Part}
 use Rattle.tape.specs.declared.readers.Reader.{Reader}
 

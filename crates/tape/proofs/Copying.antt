@@ -1,19 +1,17 @@
 -- Writing a tape again while it is read. Assumes nothing.
-use mathlib.Core.Path.{_≡_, refl, sym, ap, subst, _∙_}
+use mathlib.Core.Path.{_≡_, sym, ap, subst, _∙_}
 use mathlib.Core.List.{List, [], _∷_, _++_}
 use Prim.Native.Nat.{ℕ, _+_, _-_, _≤_}
 use native.Mathlib.Omega.{arith}
 use lib.ListN.{length, drop}
-use Rattle.std.specs.Joined.{joined}
 use Rattle.std.specs.declared.option.Option.the-variants.{Some, None}
 use Rattle.std.proofs.shelf.Ways.{tells}
 use Rattle.std.specs.declared.result.Result.{Result}
 use Rattle.std.specs.declared.result.Result.the-variants.{Ok, Err}
 use Rattle.machine.specs.Emitters.{Ran}
-use Rattle.machine.specs.Turns.{moved, turn-after, verdict, walked}
+use Rattle.machine.specs.Turns.{moved, verdict}
 use Rattle.machine.specs.declared.refusals.Refusal.{Refusal}
 use Rattle.machine.specs.declared.steps.Step.{Step}
-use Rattle.machine.specs.declared.turns.Turn.{Turn}
 use Rattle.machine.specs.declared.turns.Turn.the-variants.{Bare}
 use Rattle.machine.proofs.Giving.{not-refused}
 use Rattle.machine.proofs.Runs.{ran-join, ran-none, ran-turn}
@@ -21,7 +19,7 @@ use Rattle.machine.proofs.Walks.{Goes, goes, walked-cons}
 use Rattle.tape.specs.Limits.{longest-command}
 use Rattle.tape.specs.Commands.{encode}
 use Rattle.tape.specs.Meanings.{tape-meaning}
-use Rattle.tape.specs.Readers.{Asked, Began, Passed}
+use Rattle.tape.specs.Readers.{Asked, Passed}
 use Rattle.tape.specs.Tapes.{Opened}
 use Rattle.tape.specs.Whole.{checked, rewritten}
 use Rattle.tape.specs.declared.readers.Fault.{Fault}

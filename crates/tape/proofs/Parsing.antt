@@ -1,8 +1,7 @@
 -- The command that bytes begin with, and that its bytes are its step's. Assumes nothing.
 use mathlib.Core.Path.{_≡_, refl, sym, ap, subst, _∙_}
-use mathlib.Core.Bool.{true, false}
 use mathlib.Core.List.{List, [], _∷_, _++_}
-use Prim.Native.Nat.{ℕ, suc, _+_, _-_, _<_, _≤_}
+use Prim.Native.Nat.{ℕ, suc, _+_, _<_, _≤_}
 use native.Mathlib.Omega.{arith}
 use lib.Dec.{leb}
 use lib.ListN.{length, getD, take, drop}
@@ -13,7 +12,6 @@ use Rattle.std.proofs.shelf.Ways.{tells}
 use Rattle.std.specs.declared.option.Option.the-variants.{Some, None}
 use Rattle.std.specs.declared.result.Result.the-variants.{Ok, Err}
 use Rattle.machine.specs.declared.refusals.Refusal.the-variants.{CutShort, UnknownCommand}
-use Rattle.machine.specs.declared.steps.Step.{Step}
 use Rattle.tape.specs.Opcodes.{first-byte, first-width, opcode-at, second-width}
 use Rattle.tape.specs.Commands.{bytes-of, command, encode, first-step, little, step-at, step-by, value}
 use Rattle.tape.specs.Readers.{Commanded}

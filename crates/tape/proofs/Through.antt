@@ -1,6 +1,6 @@
 -- Reading a tape through, command by command. Assumes nothing.
 use mathlib.Core.Path.{_≡_, refl, sym, ap, subst, _∙_}
-use mathlib.Core.Bool.{Bool, true, false, cond}
+use mathlib.Core.Bool.{true, false}
 use mathlib.Core.List.{List, [], _∷_, _++_}
 use mathlib.Core.Logic.{inl, inr}
 use Prim.Native.Nat.{ℕ, _+_, _-_, _<_, _≤_}
@@ -24,7 +24,7 @@ use Rattle.machine.specs.declared.turns.Turn.the-variants.{Bare}
 use Rattle.tape.specs.Limits.{tape-limit}
 use Rattle.tape.specs.Commands.{command-of, encode, first-step, size}
 use Rattle.tape.specs.Readings.{Reading, before, ended, read, reading, stopped}
-use Rattle.tape.specs.Readers.{Asked, Passed, answer-at, fault, next-step, step-in}
+use Rattle.tape.specs.Readers.{Asked, Passed, fault, next-step, step-in}
 use Rattle.tape.specs.Whole.{outcome, tape-reads}
 use Rattle.tape.specs.declared.readers.Fault.{Fault}
 use Rattle.tape.specs.declared.readers.Part.{Part}

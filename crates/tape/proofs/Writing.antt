@@ -1,8 +1,8 @@
 -- Writing a command on a tape, byte by byte. Assumes nothing.
 use mathlib.Core.Path.{_≡_, refl, sym, ap, subst, _∙_}
-use mathlib.Core.Bool.{true, false, _&&_}
+use mathlib.Core.Bool.{true}
 use mathlib.Core.List.{List, [], _∷_, _++_}
-use Prim.Native.Nat.{ℕ, _+_, _-_, _/_, _<_, _≤_}
+use Prim.Native.Nat.{ℕ, _+_, _<_, _≤_}
 use native.Mathlib.Nat.{add-assoc}
 use native.Mathlib.Omega.{arith}
 use denote.Ref.{name}
@@ -10,7 +10,7 @@ use lib.ListN.{length, getD, set, take, drop}
 use Rattle.std.proofs.shelf.Lists.{append-assoc, append-nil, length-append, length-drop, length-take-le, set-at, take-all, take-append-drop, take-more, drop-more, take-set-le}
 use Rattle.std.proofs.shelf.Tests.{and-from, and-parts}
 use Rattle.std.specs.Joined.{joined}
-use Rattle.std.specs.declared.result.Result.the-variants.{Ok, Err}
+use Rattle.std.specs.declared.result.Result.the-variants.{Ok}
 use Rattle.machine.specs.States.{begin}
 use Rattle.machine.specs.Effects.{run}
 use Rattle.machine.specs.Emitters.{Ran}
@@ -22,13 +22,13 @@ use Rattle.machine.proofs.Runs.{run-append}
 use Rattle.machine.proofs.Walks.{arrives-walked, walked-append, walked-arrives, walked-cons}
 use Rattle.tape.specs.Limits.{longest-command}
 use Rattle.tape.specs.Commands.{bytes-of, command-of, encode, fits, size}
-use Rattle.tape.specs.Readings.{Reading, all-fit, reading, steps-on}
-use Rattle.tape.specs.Tapes.{Gains, tape-steps, written}
+use Rattle.tape.specs.Readings.{Reading, all-fit, reading}
+use Rattle.tape.specs.Tapes.{tape-steps, written}
 use Rattle.tape.specs.Gaining.{take-written}
 use Rattle.tape.specs.Meanings.{tape-meaning}
 use Rattle.tape.specs.declared.commands.Command.{Command}
 use Rattle.tape.specs.declared.tapes.Tape.{Tape}
-use Rattle.tape.proofs.Decoding.{all-read, read-all}
+use Rattle.tape.proofs.Decoding.{read-all}
 use Rattle.tape.proofs.Encoding.{joined-more, length-bytes, length-encode, size-bound}
 
 -- what a tape keeps of its used bytes x

@@ -57,9 +57,8 @@ ReadAs ps (Ok v) = vec-items v ≡ ps
 ReadAs ps (Err (Refused f)) = ⊥
 ReadAs ps (Err Memory) = Unit {0}
 
--- the bytes are the commands of these steps, as a tape holds them that was written from bare to bare and
--- is not too long
-pub record Commands (ps : List Step) (bs : List ℕ) : Type 0 where
+-- the bytes are the tape of these steps: their commands, written from bare to bare and not too long
+pub record TapeOf (ps : List Step) (bs : List ℕ) : Type 0 where
   pub bytes : bs ≡ joined encode ps
   pub fit : all-fit ps ≡ true
   pub bare : walked ps Bare ≡ Ok Bare

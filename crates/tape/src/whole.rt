@@ -9,7 +9,7 @@ ghost use Rattle.tape.specs.Limits.{longest-command, tape-limit};
 ghost use Rattle.machine.specs.declared.turns.Turn.the-variants.{Bare};
 ghost use Rattle.tape.specs.Commands.{encode};
 ghost use Rattle.tape.specs.Tapes.{tape-steps};
-ghost use Rattle.tape.specs.Whole.{Commands, Filled, Read, ReadAs, checked, rewrite-verdict, tape-reads, write-verdict};
+ghost use Rattle.tape.specs.Whole.{TapeOf, Filled, Read, ReadAs, checked, rewrite-verdict, tape-reads, write-verdict};
 use crate::commands::Command;
 use crate::errors::ReadError;
 use crate::errors::ReadErrorFromFault;
@@ -39,7 +39,7 @@ pub fn check_tape(tape: &[u8]) -> Result<(), Fault>
 // The steps of an accepted tape.
 pub fn read_tape(heap: Global, tape: &[u8]) -> Result<Vec<Step>, ReadError>
     ensures answer { λ r. ⌜ Read (now (tape .entry)) r ⌝ }
-    ensures round { λ r. ⌜ ((ps : List Step) → Commands ps (now (tape .entry)) → ReadAs ps r) ⌝ }
+    ensures round { λ r. ⌜ ((ps : List Step) → TapeOf ps (now (tape .entry)) → ReadAs ps r) ⌝ }
 {
     let mut steps = Vec::new(heap);
     let mut reader = Reader::open(tape);

@@ -1,9 +1,8 @@
 // Reading one command after another.
-ghost use Prim.Native.Nat.{_+_, _<_, _≤_};
+ghost use Prim.Native.Nat.{_+_, _<_};
 ghost use mathlib.Core.Path.{_≡_};
-ghost use lib.ListN.{drop, length};
+ghost use lib.ListN.{length};
 ghost use Rattle.std.specs.declared.result.Result.the-variants.{Err};
-ghost use Rattle.tape.specs.Commands.{first-step};
 ghost use Rattle.tape.specs.Readers.{Asked, Began, Commanded};
 use crate::commands::Command;
 use crate::commands::number;

@@ -1,5 +1,4 @@
-use Prim.Native.Nat.{_-_}
-use lib.ListN.{length, drop}
+use lib.ListN.{drop}
 use Rattle.tape.proofs.Numbers.{Writes}
 use Rattle.tape.proofs.commands.number.Given as given
 
