@@ -6,13 +6,13 @@ use Prim.Native.Nat.{ℕ, _+_, _-_, _<_, _≤_}
 use native.Mathlib.Omega.{arith}
 use lib.ListN.{length, take, drop}
 use Rattle.std.proofs.shelf.Lists.{drop-all, length-drop, length-take, take-rest}
-use Rattle.std.proofs.shelf.Tests.{cases-eq, cond-false, cond-true, le-ltb, lt-ltb}
+use Rattle.std.proofs.shelf.Tests.{cases-eq, cond-false, cond-true, le-ltb}
 use Rattle.std.specs.declared.option.Option.the-variants.{Some, None}
 use Rattle.std.specs.declared.result.Result.{Result}
 use Rattle.std.specs.declared.result.Result.the-variants.{Ok, Err}
 use Rattle.machine.specs.Turns.{is-bare, moved}
 use Rattle.machine.specs.declared.refusals.Refusal.{Refusal}
-use Rattle.machine.specs.declared.refusals.Refusal.the-variants.{OutOfTurn, TooLong}
+use Rattle.machine.specs.declared.refusals.Refusal.the-variants.{OutOfTurn}
 use Rattle.machine.specs.declared.steps.Step.{Step}
 use Rattle.machine.specs.declared.turns.Turn.{Turn}
 use Rattle.tape.specs.Limits.{tape-limit}
@@ -34,9 +34,6 @@ next-taken [] t u place p some e m = absurd (omega arith)
 next-taken (b ∷ bs) t u place p some e m = cc
 
 module _ (a : Reader) where
-  pub asked-too-long : tape-limit < length (a .tape .now) → Asked a (Err (fault TooLong 0)) a
-  asked-too-long long = record { answer = sym (cond-true _ _ _ (lt-ltb _ _ long)); went = refl }
-
   module _ (short : length (a .tape .now) ≤ tape-limit) where
     goes-on : answer-at (a .tape .now) (a .place) (a .turn) ≡ next-step (a .turn) (a .place) (drop (a .place) (a .tape .now))
     goes-on = cond-false _ _ _ (le-ltb _ _ short)

@@ -1,5 +1,5 @@
 -- Writing a tape again while it is read. Assumes nothing.
-use mathlib.Core.Path.{_≡_, sym, ap, subst, _∙_}
+use mathlib.Core.Path.{_≡_, ap, subst, _∙_}
 use mathlib.Core.List.{List, [], _∷_, _++_}
 use Prim.Native.Nat.{ℕ, _+_, _-_, _≤_}
 use native.Mathlib.Omega.{arith}
@@ -12,9 +12,8 @@ use Rattle.machine.specs.Emitters.{Ran}
 use Rattle.machine.specs.Turns.{moved, verdict}
 use Rattle.machine.specs.declared.refusals.Refusal.{Refusal}
 use Rattle.machine.specs.declared.steps.Step.{Step}
-use Rattle.machine.specs.declared.turns.Turn.the-variants.{Bare}
 use Rattle.machine.proofs.Giving.{not-refused}
-use Rattle.machine.proofs.Runs.{ran-join, ran-none, ran-turn}
+use Rattle.machine.proofs.Runs.{ran-join, ran-turn}
 use Rattle.machine.proofs.Walks.{Goes, goes, walked-cons}
 use Rattle.tape.specs.Limits.{longest-command}
 use Rattle.tape.specs.Commands.{encode}
@@ -27,7 +26,7 @@ use Rattle.tape.specs.declared.readers.Part.{Part}
 use Rattle.tape.specs.declared.readers.Reader.{Reader}
 use Rattle.tape.specs.declared.tapes.Tape.{Tape}
 use Rattle.tape.proofs.Filling.{Spare, filled-bytes, spare-more, spare-room}
-use Rattle.tape.proofs.Through.{Through, through-all, through-more, through-none}
+use Rattle.tape.proofs.Through.{Through, through-all, through-more}
 
 -- what the reader has passed of the tape bs is written from a to b, and there is space for the rest
 pub record Copying (bs : List ℕ) (a : Tape) (r : Reader) (b : Tape) : Type 0 where
@@ -36,15 +35,6 @@ pub record Copying (bs : List ℕ) (a : Tape) (r : Reader) (b : Tape) : Type 0 w
   pub ran : Ran tape-meaning done a b
   pub same-turn : b .turn ≡ r .turn
   pub spare : Spare b (length bs - r .place)
-
-pub copying-none : (bs buffer : List ℕ) (a : Tape) (r : Reader) → Opened buffer a → r .tape .now ≡ bs → r .place ≡ 0 → r .turn ≡ Bare → length bs + longest-command ≤ length buffer → Copying bs a r a
-copying-none bs buffer a r opened tape place turn enough = record {
-  done = [];
-  through = through-none bs r tape place turn;
-  ran = ran-none tape-meaning a;
-  same-turn = opened .turn ∙ sym turn;
-  spare = omega (arith, opened .used, ap length (opened .bytes));
-}
 
 module _ (bs : List ℕ) (a : Tape) (r : Reader) (b : Tape) (copying : Copying bs a r b) where
   module _ (part : Part) (s : Reader) (asked : Asked r (Ok (Some part)) s) where

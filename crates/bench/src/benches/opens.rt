@@ -9,13 +9,13 @@ use crate::benches::Bench;
 use crate::kinds::WordKind;
 use crate::limits::*;
 use crate::origins::Origin;
+use crate::origins::Origins;
 use machine::limits::LOCAL_SLOTS;
 use machine::limits::REGISTERS;
 use machine::places::LocalSlot;
 use machine::places::Register;
 use machine::refusals::Refusal;
 use machine::turns::Turn;
-use crate::origins::Origins;
 
 impl<'a, W: WordKind> Bench<'a, W> {
     // Whether the cells are as many as a bench takes.
