@@ -12,7 +12,7 @@ use tape::whole::write_tape;
 // bytes enough for a short tape, with ten to spare
 const BUFFER: usize = 64;
 
-pub fn show_tape(rt: &LibcRuntime, steps: &[Step]) -> Result<(), AnyError> {
+pub(crate) fn show_tape(rt: &LibcRuntime, steps: &[Step]) -> Result<(), AnyError> {
     let heap = rt.alloc();
     let tape = tape_of(rt, steps)?;
     let pairs = hex(heap, &tape)?;
@@ -28,7 +28,7 @@ pub fn show_tape(rt: &LibcRuntime, steps: &[Step]) -> Result<(), AnyError> {
 }
 
 // What an unexpected refusal ends the program with.
-pub fn refused<T>(rt: &LibcRuntime, refusal: Refusal) -> Result<T, AnyError> {
+pub(crate) fn refused<T>(rt: &LibcRuntime, refusal: Refusal) -> Result<T, AnyError> {
     let number = refusal.number();
     Err(format!(rt.alloc(), "refused: {number}")?.into())
 }

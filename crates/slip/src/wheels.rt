@@ -62,7 +62,7 @@ fn see<W: WordKind>(cells: &mut [W], steps: &[Step]) -> Result<Seen<W>, Refusal>
 }
 
 // The steps on both wheels and on origins; on origins the speeds are named by their registers.
-pub fn show_runs(rt: &LibcRuntime, steps: &[Step]) -> Result<(), AnyError> {
+pub(crate) fn show_runs(rt: &LibcRuntime, steps: &[Step]) -> Result<(), AnyError> {
     show_wheel(rt, "trial wheel", TRIAL, steps)?;
     show_wheel(rt, "slipping wheel", SLIPPING, steps)?;
     show_origins(rt, steps)
