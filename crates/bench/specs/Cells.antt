@@ -10,9 +10,9 @@ use mathlib.Core.List.{List, map}
 use lib.ListN.{getD}
 use Rattle.machine.specs.Limits.{registers, local-slots, outgoing-slots}
 use Rattle.machine.specs.Effects.{lose}
-use Rattle.machine.specs.States.{State, below, blank}
+use Rattle.machine.specs.States.{State, begin, below}
+use Rattle.machine.specs.Words.{Start}
 use Rattle.machine.specs.declared.turns.Turn.{Turn}
-use Rattle.machine.specs.declared.turns.Turn.the-variants.{Bare}
 use Rattle.machine.specs.declared.words.Word.{Word}
 use Rattle.machine.specs.declared.words.Word.the-variants.{Unknown}
 
@@ -66,16 +66,13 @@ abbrev pub call-words : ℕ → (ℕ → Word) → ℕ → Word
 call-words m w =
     lose m (wiped first-outgoing outgoing-slots (copied first-outgoing first-seen-outgoing outgoing-slots (copied 0 first-seen-register registers w)))
 
--- the state of a new bench on cells that stand for the words w
+-- the start that cells hold which stand for the words w
+abbrev pub start-of : (ℕ → Word) → Start
+start-of w = record { register = λ r. w (0 + r); local = λ n. w (first-local + n) }
+
+-- a new bench is at that start
 abbrev pub loaded : (ℕ → Word) → State
-loaded w = record {
-  register = area w 0 registers;
-  local = area w first-local local-slots;
-  outgoing = blank;
-  turn = Bare;
-  calls = 0;
-  seen = record { routine = 0; register = blank; outgoing = blank };
-}
+loaded w = begin (start-of w)
 
 -- the state of a bench whose cells stand for the words w
 abbrev pub state-of : (ℕ → Word) → Turn → ℕ → ℕ → State

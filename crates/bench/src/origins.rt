@@ -33,10 +33,10 @@ pub impl WordKind for Origin as Origins {
 pub impl fmt::Display for Origin as OriginDisplay {
     fn fmt<W: fmt::Write>(&self, f: &mut fmt::Formatter<W>) -> fmt::Result {
         match *self {
-            Origin::Unknown => write!(f, "?"),
-            Origin::Register(Register(register)) => write!(f, "r{register}"),
-            Origin::Local(LocalSlot(slot)) => write!(f, "l{slot}"),
-            Origin::Number(number) => write!(f, "k{number}"),
+            Self::Unknown => write!(f, "?"),
+            Self::Register(Register(r)) => write!(f, "r{r}"),
+            Self::Local(LocalSlot(n)) => write!(f, "l{n}"),
+            Self::Number(k) => write!(f, "k{k}"),
         }
     }
 }

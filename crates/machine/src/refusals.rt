@@ -4,9 +4,9 @@ ghost use Rattle.machine.specs.Refusals.{number};
 
 #[derive(Clone, Copy, PartialEq, Eq, Debug)]
 pub enum Refusal {
-    // the argument list already has 32 entries
+    // the argument list is full
     ListFull = 11,
-    // a register above 31
+    // a register above the last
     NoSuchRegister = 12,
     // a local slot above the last
     NoSuchLocalSlot = 13,
@@ -16,7 +16,7 @@ pub enum Refusal {
     WrongCells = 21,
     // a unit is opened on an emitter that is not bare
     NotBare = 22,
-    // hidden and given arguments are more than 32
+    // hidden and given arguments are more than a list holds
     TooManyArguments = 23,
     // the unit's calls are at their limit
     CallsAtLimit = 31,

@@ -8,7 +8,8 @@ use std::error::AnyError;
 mod lists;
 mod wheels;
 
-use lists::show_tape;
+use lists::read_back;
+use lists::tape_of;
 use wheels::show_runs;
 
 // the routine, and the registers that a call of it loses
@@ -68,9 +69,14 @@ fn show(rt: &LibcRuntime) -> Result<(), AnyError> {
         "Routine {ROUTINE} is to see the speeds in registers 6 and 7 exchanged."
     )?;
     println!(rt, "\nThe right list:")?;
-    show_tape(rt, &RIGHT)?;
-    show_runs(rt, &RIGHT)?;
+    show_list(rt, &RIGHT)?;
     println!(rt, "\nThe old list:")?;
-    show_tape(rt, &WRONG)?;
-    show_runs(rt, &WRONG)
+    show_list(rt, &WRONG)
+}
+
+// The list goes to a tape, and what is read back from it is run.
+fn show_list(rt: &LibcRuntime, steps: &[Step]) -> Result<(), AnyError> {
+    let tape = tape_of(rt, steps)?;
+    let read = read_back(rt, &tape)?;
+    show_runs(rt, &read)
 }

@@ -1,5 +1,9 @@
 // A list of steps run on wheels and on origins, and what the routine saw.
-ghost use Rattle.slip.specs.Seeing.{Saw};
+ghost use mathlib.Core.Path.{_≡_};
+ghost use lib.ListN.{length, set};
+ghost use Rattle.machine.specs.declared.words.Word.the-variants.{Number};
+ghost use Rattle.bench.specs.Cells.{cell-count};
+ghost use Rattle.slip.specs.Seeing.{Saw, first-speed, second-speed};
 use crate::FIRST;
 use crate::SECOND;
 use crate::lists::refused;
@@ -78,12 +82,18 @@ fn show_wheel(rt: &LibcRuntime, name: &str, wheel: Wheel, steps: &[Step]) -> Res
     let as_asked = seen.first == Word::Number(wheel.second)
         && seen.second == Word::Number(wheel.first);
     let Wheel { first, second } = wheel;
-    println!(rt, "  on the {name}, 6 = {first} and 7 = {second} mm/s:")?;
+    let (here, there) = (FIRST.0, SECOND.0);
+    println!(
+        rt,
+        "  on the {name}, {here} = {first} and {there} = {second} mm/s:"
+    )?;
     show_seen(rt, seen, as_asked)
 }
 
 // Puts a wheel's speeds into the registers, where the cells are enough.
-fn load(cells: &mut [Word], wheel: Wheel) {
+fn load(cells: &mut [Word], wheel: Wheel)
+    ensures { λ _. ⌜ (length (now (cells .entry)) ≡ cell-count → now (cells .exit) ≡ set (set (now (cells .entry)) first-speed (Number (wheel .first))) second-speed (Number (wheel .second))) ⌝ }
+{
     if cells.len() == CELLS {
         cells[FIRST.0 as usize] = Word::Number(wheel.first);
         cells[SECOND.0 as usize] = Word::Number(wheel.second);
@@ -114,10 +124,11 @@ fn show_seen<W: fmt::Display + Copy>(
         first,
         second,
     } = seen;
+    let (here, there) = (FIRST.0, SECOND.0);
     let judgement = if as_asked { "as asked" } else { "wrong" };
     println!(
         rt,
-        "    routine {routine} saw 6 = {first} and 7 = {second}: {judgement}"
+        "    routine {routine} saw {here} = {first} and {there} = {second}: {judgement}"
     )?;
     Ok(())
 }

@@ -67,11 +67,6 @@ module _ (bs : List ℕ) (a : Tape) (r : Reader) (b : Tape) (copying : Copying b
       filled-bytes buffer (copying .done) a b opened (copying .ran)
       ∙ ap (λ l. l ++ drop (length l) buffer) (through-all bs (copying .done) r (copying .through) s asked)
 
--- a tape that was checked is refused no more
-pub not-both : (r : Result (List Step) Fault) (f : Fault) → Ok tt ≡ checked r → r ≡ Err f → ⊥
-not-both (Ok ps) f ok e = grind (arith, e)
-not-both (Err g) f ok e = grind (arith, ok)
-
 -- the answer to a tape that is written again
 pub rewritten-answer : (r : Result (List Step) Fault) (n space : ℕ) → Ok tt ≡ checked r → n + longest-command ≤ space → Ok n ≡ rewritten r n space
 rewritten-answer (Ok ps) n space ok enough = grind (arith, tells, enough)

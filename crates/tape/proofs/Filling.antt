@@ -1,5 +1,5 @@
 -- Writing a whole list of steps on a tape with bytes to spare. Assumes nothing.
-use mathlib.Core.Path.{_≡_, ap, _∙_}
+use mathlib.Core.Path.{_≡_, refl, sym, ap, _∙_}
 use mathlib.Core.List.{List, [], _∷_, _++_}
 use Prim.Native.Nat.{ℕ, _+_, _<_, _≤_}
 use native.Mathlib.Omega.{arith}
@@ -13,12 +13,14 @@ use Rattle.machine.specs.Turns.{walked}
 use Rattle.machine.specs.declared.steps.Step.{Step}
 use Rattle.machine.specs.declared.turns.Turn.{Turn}
 use Rattle.machine.specs.declared.turns.Turn.the-variants.{Bare}
-use Rattle.tape.specs.Limits.{longest-command}
+use Rattle.tape.specs.Limits.{longest-command, tape-limit}
 use Rattle.tape.specs.Commands.{encode}
 use Rattle.tape.specs.Meanings.{tape-meaning}
-use Rattle.tape.specs.Tapes.{Gains, Opened, written}
-use Rattle.tape.specs.Whole.{write-verdict}
+use Rattle.tape.specs.Tapes.{Gains, Opened, tape-steps, written}
+use Rattle.tape.specs.Whole.{tape-reads, write-verdict}
 use Rattle.tape.specs.declared.tapes.Tape.{Tape}
+use Rattle.tape.specs.Readings.{all-fit}
+use Rattle.tape.proofs.Rounds.{commands-read}
 use Rattle.tape.proofs.Writing.{length-written}
 
 -- a tape has this many bytes to write, and at least the longest command's bytes besides
@@ -44,6 +46,12 @@ module _ (bs : List ℕ) (ps : List Step) (a b : Tape) (opened : Opened bs a) (r
 
   pub filled-bytes : b .buffer .now ≡ joined encode ps ++ drop (length (joined encode ps)) bs
   filled-bytes = ran .gains .bytes ∙ (λ i. written (opened .used i) (joined encode ps) (filled-length i) (opened .bytes i))
+
+  -- and these read as the steps again
+  pub filled-reads : length (joined encode ps) ≤ tape-limit → walked ps Bare ≡ Ok Bare → tape-reads (joined encode ps) ≡ Ok ps
+  filled-reads short bare =
+      let steps : tape-steps b ≡ ps = ran .gains .steps ∙ ap (λ ss. ss ++ ps) (opened .steps) in
+      commands-read ps (joined encode ps) (record { bytes = refl; fit = ap all-fit (sym steps) ∙ b .fit; bare = bare; short = short })
 
 -- the answer to steps that are written
 pub written-answer : (ps : List Step) (space : ℕ) (u : Turn) → Ok u ≡ walked ps Bare → length (joined encode ps) + longest-command ≤ space → Ok (length (joined encode ps)) ≡ write-verdict ps space

@@ -75,8 +75,8 @@ length-written bs at xs to e within =
     length-append (take at bs) (xs ++ drop to bs) ∙ omega (arith, length-take-le at bs (omega arith), length-append xs (drop to bs), length-drop to bs)
 
 -- one byte more after those written
-written-more : (bs : List ℕ) (used : ℕ) (xs : List ℕ) (v n : ℕ) → n ≡ used + length xs → n < length bs → set (written used xs n bs) n v ≡ written used (xs ++ (v ∷ [])) (n + 1) bs
-written-more bs used xs v n e h =
+written-byte : (bs : List ℕ) (used : ℕ) (xs : List ℕ) (v n : ℕ) → n ≡ used + length xs → n < length bs → set (written used xs n bs) n v ≡ written used (xs ++ (v ∷ [])) (n + 1) bs
+written-byte bs used xs v n e h =
     let front : length (take used bs ++ xs) ≡ n = length-append (take used bs) xs ∙ omega (arith, length-take-le used bs (omega arith)) in
     ap (λ ys. set ys n v) (ap (λ ys. take used bs ++ (xs ++ ys)) (drop-more bs n 0 h) ∙ sym (append-assoc (take used bs) xs _))
     ∙ set-at (take used bs ++ xs) (getD bs n 0) (drop (n + 1) bs) v n front
@@ -107,7 +107,7 @@ writing-more a xs i b c w h room lent used turn wrote = record {
       let at : b .used + i ≡ a .used + i = ap (λ n. n + i) (w .used) in
       let so-far : a .used + i ≡ a .used + length (take i xs) = ap (λ n. a .used + n) (sym (length-take-le i xs (omega arith))) in
       wrote ∙ (λ k. set (w .bytes k) (at k) (getD xs i 0))
-      ∙ written-more (a .buffer .now) (a .used) (take i xs) (getD xs i 0) (a .used + i) so-far room
+      ∙ written-byte (a .buffer .now) (a .used) (take i xs) (getD xs i 0) (a .used + i) so-far room
       ∙ (λ k. written (a .used) (sym (take-more xs i 0 h) k) (add-assoc (a .used) i 1 k) (a .buffer .now));
 }
 

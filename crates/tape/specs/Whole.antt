@@ -25,7 +25,7 @@ use Rattle.tape.specs.declared.readers.Fault.{Fault}
 use Rattle.tape.specs.declared.errors.ReadError.{ReadError}
 use Rattle.tape.specs.declared.errors.ReadError.the-variants.{Memory, Refused}
 use Rattle.tape.specs.declared.errors.RewriteError.{RewriteError}
-use Rattle.tape.specs.declared.errors.RewriteError.the-variants.{Read as NotRead, Write}
+use Rattle.tape.specs.declared.errors.RewriteError.the-variants.{Buffer, Tape}
 
 -- what a reading of a tape of n bytes comes to: its steps if it ends bare, and otherwise why it is
 -- refused and at which byte
@@ -45,11 +45,11 @@ abbrev pub checked : Result (List Step) Fault → Result (Unit {0}) Fault
 checked (Ok ps) = Ok tt
 checked (Err f) = Err f
 
--- the tape was read into a list, unless that found no memory
+-- the tape was read into a list, unless that found no memory for an accepted one
 abbrev pub Read : List ℕ → Result (Vec Step Global) ReadError → Type 0
 Read bs (Ok v) = tape-reads bs ≡ Ok (vec-items v)
 Read bs (Err (Refused f)) = tape-reads bs ≡ Err f
-Read bs (Err Memory) = Unit {0}
+Read bs (Err Memory) = (ps : List Step) × (tape-reads bs ≡ Ok ps)
 
 -- the list is these steps, unless it found no memory
 abbrev pub ReadAs : List Step → Result (Vec Step Global) ReadError → Type 0
@@ -73,6 +73,11 @@ write-verdict ps space =
       | Err f ↦ Err f
     ]
 
+-- a tape that was written, ends bare and is not too long reads as the steps written
+abbrev pub ReadsBack : List Step → Result ℕ Refusal → Type 0
+ReadsBack ps (Ok n) = n ≤ tape-limit → walked ps Bare ≡ Ok Bare → tape-reads (joined encode ps) ≡ Ok ps
+ReadsBack ps (Err _) = Unit {0}
+
 -- the buffer begins with the tape and is otherwise as it was, or nothing has changed
 abbrev pub Filled : {E : Type 0} → List ℕ → Result ℕ E → List ℕ → List ℕ → Type 0
 Filled tape (Ok _) before after = after ≡ tape ++ drop (length tape) before
@@ -81,8 +86,8 @@ Filled tape (Err _) before after = after ≡ before
 -- the answer to a tape of n bytes to be written again: why it is refused, then no room unless ten bytes
 -- are to spare, and otherwise its length
 abbrev pub rewritten : Result (List Step) Fault → ℕ → ℕ → Result ℕ RewriteError
-rewritten (Ok _) n space = cond (ltb space (n + longest-command)) (Err (Write NoRoom)) (Ok n)
-rewritten (Err f) n space = Err (NotRead f)
+rewritten (Ok _) n space = cond (ltb space (n + longest-command)) (Err (Buffer NoRoom)) (Ok n)
+rewritten (Err f) n space = Err (Tape f)
 
 abbrev pub rewrite-verdict : List ℕ → ℕ → Result ℕ RewriteError
 rewrite-verdict bs space = rewritten (tape-reads bs) (length bs) space

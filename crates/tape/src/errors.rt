@@ -1,7 +1,7 @@
 // Why a whole tape was not read, or not written again.
 ghost use mathlib.Core.Path.{_≡_};
 ghost use Rattle.tape.specs.declared.errors.ReadError.the-variants.{Memory, Refused};
-ghost use Rattle.tape.specs.declared.errors.RewriteError.the-variants.{Read};
+ghost use Rattle.tape.specs.declared.errors.RewriteError.the-variants.{Tape};
 use crate::readers::Fault;
 use crate::readers::FaultDebug;
 use crate::readers::FaultPartialEq;
@@ -36,15 +36,15 @@ pub impl<T: Drop> From<std::alloc::Refused<T>> for ReadError as ReadErrorFromRef
 #[derive(Clone, Copy, PartialEq, Eq, Debug)]
 pub enum RewriteError {
     // the tape is refused
-    Read(Fault),
+    Tape(Fault),
     // the buffer is refused
-    Write(Refusal),
+    Buffer(Refusal),
 }
 
 pub impl From<Fault> for RewriteError as RewriteErrorFromFault {
-    ghost converts = { λ f r. r ≡ Read f };
+    ghost converts = { λ f r. r ≡ Tape f };
 
     fn from(fault: Fault) -> RewriteError {
-        RewriteError::Read(fault)
+        RewriteError::Tape(fault)
     }
 }

@@ -2,17 +2,36 @@
 ghost use mathlib.Core.Path.{_≡_};
 ghost use Rattle.tape.specs.Opcodes.{first-byte, first-width, opcode-at, second-width};
 
-#[derive(Clone, Copy, PartialEq, Eq, Debug)]
+// the first byte of each command
+const COPY: u8 = 1;
+
+const SET: u8 = 2;
+
+const FETCH: u8 = 3;
+
+const BACK: u8 = 4;
+
+const STORE: u8 = 5;
+
+const KEEP: u8 = 6;
+
+const RESERVE: u8 = 7;
+
+const CALL: u8 = 8;
+
+const POP: u8 = 9;
+
+#[derive(Clone, Copy)]
 pub enum Opcode {
-    Copy = 1,
-    Set = 2,
-    Fetch = 3,
-    Back = 4,
-    Store = 5,
-    Keep = 6,
-    Reserve = 7,
-    Call = 8,
-    Pop = 9,
+    Copy,
+    Set,
+    Fetch,
+    Back,
+    Store,
+    Keep,
+    Reserve,
+    Call,
+    Pop,
 }
 
 impl Opcode {
@@ -20,7 +39,17 @@ impl Opcode {
     pub(crate) fn byte(self) -> u8
         ensures { λ r. ⌜ r ≡ first-byte self ⌝ }
     {
-        self as u8
+        match self {
+            Opcode::Copy => COPY,
+            Opcode::Set => SET,
+            Opcode::Fetch => FETCH,
+            Opcode::Back => BACK,
+            Opcode::Store => STORE,
+            Opcode::Keep => KEEP,
+            Opcode::Reserve => RESERVE,
+            Opcode::Call => CALL,
+            Opcode::Pop => POP,
+        }
     }
 
     // The command that begins with this byte, if any does.
@@ -28,15 +57,15 @@ impl Opcode {
         ensures { λ r. ⌜ r ≡ opcode-at byte ⌝ }
     {
         match byte {
-            1 => Some(Opcode::Copy),
-            2 => Some(Opcode::Set),
-            3 => Some(Opcode::Fetch),
-            4 => Some(Opcode::Back),
-            5 => Some(Opcode::Store),
-            6 => Some(Opcode::Keep),
-            7 => Some(Opcode::Reserve),
-            8 => Some(Opcode::Call),
-            9 => Some(Opcode::Pop),
+            COPY => Some(Opcode::Copy),
+            SET => Some(Opcode::Set),
+            FETCH => Some(Opcode::Fetch),
+            BACK => Some(Opcode::Back),
+            STORE => Some(Opcode::Store),
+            KEEP => Some(Opcode::Keep),
+            RESERVE => Some(Opcode::Reserve),
+            CALL => Some(Opcode::Call),
+            POP => Some(Opcode::Pop),
             _ => None,
         }
     }

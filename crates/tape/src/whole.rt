@@ -9,7 +9,7 @@ ghost use Rattle.tape.specs.Limits.{longest-command, tape-limit};
 ghost use Rattle.machine.specs.declared.turns.Turn.the-variants.{Bare};
 ghost use Rattle.tape.specs.Commands.{encode};
 ghost use Rattle.tape.specs.Tapes.{tape-steps};
-ghost use Rattle.tape.specs.Whole.{TapeOf, Filled, Read, ReadAs, checked, rewrite-verdict, tape-reads, write-verdict};
+ghost use Rattle.tape.specs.Whole.{TapeOf, Filled, Read, ReadAs, ReadsBack, checked, rewrite-verdict, tape-reads, write-verdict};
 use crate::commands::Command;
 use crate::errors::ReadError;
 use crate::errors::ReadErrorFromFault;
@@ -41,6 +41,7 @@ pub fn read_tape(heap: Global, tape: &[u8]) -> Result<Vec<Step>, ReadError>
     ensures answer { λ r. ⌜ Read (now (tape .entry)) r ⌝ }
     ensures round { λ r. ⌜ ((ps : List Step) → TapeOf ps (now (tape .entry)) → ReadAs ps r) ⌝ }
 {
+    check_tape(tape)?;
     let mut steps = Vec::new(heap);
     let mut reader = Reader::open(tape);
     while let Some(part) = reader.next_command()? {
@@ -76,6 +77,7 @@ fn leaves_spare(steps: &[Step], space: usize) -> bool
 pub fn write_tape(steps: &[Step], buffer: &mut [u8]) -> Result<usize, Refusal>
     ensures answer { λ r. ⌜ r ≡ write-verdict (now (steps .entry)) (length (now (buffer .entry))) ⌝ }
     ensures bytes { λ r. ⌜ Filled (joined encode (now (steps .entry))) r (now (buffer .entry)) (now (buffer .exit)) ⌝ }
+    ensures reads { λ r. ⌜ ReadsBack (now (steps .entry)) r ⌝ }
 {
     let _ = Turn::Bare.after_all(steps)?;
     if !leaves_spare(steps, buffer.len()) {
@@ -98,7 +100,7 @@ pub fn rewrite_tape(tape: &[u8], buffer: &mut [u8]) -> Result<usize, RewriteErro
 {
     check_tape(tape)?;
     if buffer.len() < tape.len() + LONGEST_COMMAND {
-        return Err(RewriteError::Write(Refusal::NoRoom));
+        return Err(RewriteError::Buffer(Refusal::NoRoom));
     }
     let mut copy = Tape::open(buffer);
     let mut reader = Reader::open(tape);

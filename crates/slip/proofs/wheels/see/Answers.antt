@@ -1,12 +1,31 @@
-use mathlib.Core.Path.{_≡_, ap, _∙_}
-use Rattle.std.proofs.shelf.Results.{cases-at-some}
+use Prim.Native.Nat.{_-_}
+use mathlib.Core.Path.{_≡_, sym, ap, _∙_}
+use mathlib.Core.Bool.{true}
+use native.Mathlib.Omega.{arith}
+use lib.Dec.{eqb}
+use lib.ListN.{length}
+use Rattle.std.proofs.shelf.Results.{cases-at-some, err-from-errBy}
+use Rattle.std.proofs.shelf.Tests.{cond-true}
+use Rattle.std.proofs.shelf.Ways.{tells}
 use Rattle.machine.specs.Words.{Start}
 use Rattle.machine.specs.States.{State}
 use Rattle.machine.specs.Effects.{run}
+use Rattle.machine.specs.Emitters.{list-verdict}
 use Rattle.bench.specs.Benches.{bench-meaning}
-use Rattle.bench.specs.Cells.{loaded, words}
+use Rattle.bench.specs.Cells.{bench-steps, cell-count, loaded, words}
 use Rattle.slip.specs.Seeing.{first-speed, second-speed}
 use Rattle.slip.proofs.wheels.see.Needs as need
+
+pub returns-in-Break-give : need.returns-in-Break-give
+returns-in-Break-give g c =
+    let p = err-from-errBy (c .from-residual-in-Break-give .result) (c .from-residual-in-Break-give .ensures .1) in
+    let opened = c .make-bench .ensures .0 in
+    let passed = c .in-Continue-check .ensures tt in
+    let whole : eqb (length (c .args .cells .now)) cell-count ≡ true = grind (arith, tells, passed) in
+    rw (p .1, p .2)
+    (cond-true _ _ _ whole
+    ∙ (λ i. list-verdict (c .args .steps .now) (sym (opened .turn) i) (bench-steps - sym (opened .taken) i))
+    ∙ sym (c .in-Break-give .ensures tt .answer))
 
 pub returns : need.returns
 returns g c =

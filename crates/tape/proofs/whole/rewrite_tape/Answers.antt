@@ -1,7 +1,8 @@
 use native.Mathlib.Omega.{arith}
 use borrow.Author.Needs.{needs}
 use Rattle.tape.specs.Whole.{tape-reads}
-use Rattle.tape.proofs.Copying.{copying-all, copying-more, copying-takes, not-both, rewritten-answer}
+use Rattle.tape.proofs.Copying.{copying-all, copying-more, copying-takes, rewritten-answer}
+use Rattle.tape.proofs.Rounds.{not-both}
 use Rattle.tape.proofs.Through.{asked-as, part-falls, through-fault}
 use Rattle.tape.proofs.whole.rewrite_tape.Needs as need
 

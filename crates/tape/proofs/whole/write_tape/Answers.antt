@@ -10,7 +10,7 @@ use Rattle.machine.proofs.Giving.{giving-all, giving-goes, giving-more, giving-
 use Rattle.tape.specs.Commands.{encode}
 use Rattle.tape.specs.Meanings.{tape-meaning}
 use Rattle.tape.proofs.Encoding.{left-more}
-use Rattle.tape.proofs.Filling.{Spare, filled-bytes, filled-length, spare-more, spare-room, written-answer}
+use Rattle.tape.proofs.Filling.{Spare, filled-bytes, filled-length, filled-reads, spare-more, spare-room, written-answer}
 use Rattle.tape.proofs.whole.write_tape.Needs as need
 
 pub loop-step-holds : need.loop-step-holds
@@ -47,4 +47,5 @@ returns c =
     record {
       answer = ap (λ n. Ok n) long ∙ written-answer _ _ _ (c .in-Continue-after-all .ensures tt) enough;
       bytes = let kept = ran .gains .lent in search (needs, bytes, lent, kept);
+      reads = λ short bare. filled-reads _ _ _ (c .loop-step .tape) opened ran (omega (arith, long)) bare;
     }
