@@ -1,9 +1,11 @@
 -- What a bench means. Assumes nothing.
-use Prim.Native.Nat.{ℕ, _-_, _≤_}
+use Prim.Native.Nat.{ℕ, _-_, _<_, _≤_}
 use mathlib.Core.Path.{_≡_, refl, _∙_}
 use mathlib.Core.List.{List}
 use lib.ListN.{take}
 use denote.Ref.{name}
+use Rattle.std.specs.Options.{Cases}
+use Rattle.std.specs.declared.option.Option.{Option}
 use Rattle.machine.specs.Words.{Start}
 use Rattle.machine.specs.Effects.{effect}
 use Rattle.machine.specs.Emitters.{Meaning}
@@ -51,3 +53,7 @@ pub record Acted {W : Type 0} (stands : W → Start → Word) (step : Step) (a b
   pub turn : b .turn ≡ a .turn
   pub taken : b .taken ≡ a .taken
   pub lent : name (b .cells) ≡ name (a .cells)
+
+-- the answer to a question for place i of n: what stands for the word there, or nothing where there is no such place
+abbrev pub Told : {W : Type 0} → (W → Start → Word) → ℕ → (Start → ℕ → Word) → ℕ → Option W → Type 0
+Told stands n w i r = Cases r (n ≤ i) (λ x. (i < n) × ((s : Start) → stands x s ≡ w s i))

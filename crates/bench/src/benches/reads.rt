@@ -1,10 +1,9 @@
 // What a bench tells of the latest call step.
-ghost use Prim.Native.Nat.{_<_, _≤_};
+ghost use Prim.Native.Nat.{_<_};
 ghost use mathlib.Core.Path.{_≡_};
-ghost use Rattle.std.specs.Options.{Cases as BySome};
 ghost use Rattle.machine.specs.Limits.{outgoing-slots, registers};
 ghost use Rattle.machine.specs.Words.{Start};
-ghost use Rattle.bench.specs.Benches.{bench-meaning};
+ghost use Rattle.bench.specs.Benches.{Told, bench-meaning};
 use crate::benches::Bench;
 use crate::kinds::WordKind;
 use crate::limits::*;
@@ -30,7 +29,7 @@ impl<'a, W: WordKind> Bench<'a, W> {
 
     // What the latest call step found in a register; none where there is no such register.
     pub fn seen_register(&self, register: Register) -> Option<W>
-        ensures { λ r. ⌜ BySome r (registers ≤ register .0) (λ w. (register .0 < registers) × ((s : Start) → stands w s ≡ bench-meaning stands .state (now (self .entry)) s .seen .register (register .0))) ⌝ }
+        ensures { λ r. ⌜ Told stands registers (λ s. bench-meaning stands .state (now (self .entry)) s .seen .register) (register .0) r ⌝ }
     {
         if register.0 >= REGISTERS {
             return None;
@@ -41,7 +40,7 @@ impl<'a, W: WordKind> Bench<'a, W> {
 
     // What the latest call step found in an outgoing slot; none where there is no such slot.
     pub fn seen_outgoing(&self, slot: OutgoingSlot) -> Option<W>
-        ensures { λ r. ⌜ BySome r (outgoing-slots ≤ slot .0) (λ w. (slot .0 < outgoing-slots) × ((s : Start) → stands w s ≡ bench-meaning stands .state (now (self .entry)) s .seen .outgoing (slot .0))) ⌝ }
+        ensures { λ r. ⌜ Told stands outgoing-slots (λ s. bench-meaning stands .state (now (self .entry)) s .seen .outgoing) (slot .0) r ⌝ }
     {
         if slot.0 >= OUTGOING_SLOTS {
             return None;
