@@ -1,0 +1,70 @@
+// Steps in short, and a list of all nine, for the tests.
+use machine::steps::Step;
+
+// A step as `copy 1 2`: what it writes comes first.
+macro_rules! step {
+    (copy $to:literal $from:literal) => {
+        machine::steps::Step::Copy {
+            to: machine::places::Register($to),
+            from: machine::places::Register($from),
+        }
+    };
+    (set $to:literal $number:literal) => {
+        machine::steps::Step::Set {
+            to: machine::places::Register($to),
+            number: $number,
+        }
+    };
+    (fetch $to:literal $from:literal) => {
+        machine::steps::Step::Fetch {
+            to: machine::places::Register($to),
+            from: machine::places::LocalSlot($from),
+        }
+    };
+    (back $to:literal $from:literal) => {
+        machine::steps::Step::Back {
+            to: machine::places::Register($to),
+            from: machine::places::OutgoingSlot($from),
+        }
+    };
+    (store $to:literal $from:literal) => {
+        machine::steps::Step::Store {
+            to: machine::places::OutgoingSlot($to),
+            from: machine::places::Register($from),
+        }
+    };
+    (keep $to:literal $from:literal) => {
+        machine::steps::Step::Keep {
+            to: machine::places::LocalSlot($to),
+            from: machine::places::Register($from),
+        }
+    };
+    (reserve $bytes:literal) => {
+        machine::steps::Step::Reserve { bytes: $bytes }
+    };
+    (call $routine:literal $lost:literal) => {
+        machine::steps::Step::Call {
+            routine: $routine,
+            lost: machine::places::RegisterSet($lost),
+        }
+    };
+    (pop $bytes:literal) => {
+        machine::steps::Step::Pop { bytes: $bytes }
+    };
+}
+
+pub(crate) use step;
+
+pub fn all_nine() -> [Step; 9] {
+    [
+        step!(copy 1 2),
+        step!(set 3 0x1122_3344_5566_7788),
+        step!(fetch 4 0x0102),
+        step!(reserve 256),
+        step!(store 31 5),
+        step!(back 6 7),
+        step!(call 0x0A0B_0C0D 0xF0E0_D0C0),
+        step!(pop 256),
+        step!(keep 1023 8),
+    ]
+}
