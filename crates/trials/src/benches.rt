@@ -133,12 +133,32 @@ fn moves<W: WordKind + PartialEq<W> + Debug>(start: &Cells<W>) -> Result<(), Fai
     runs(start, &[], told, &[])?;
     runs(start, &[step!(copy 1 2)], told, &[(1, 1, Held::Start(2))])?;
     runs(start, &[step!(set 3 99)], told, &[(3, 1, Held::Number(99))])?;
-    runs(start, &[step!(fetch 4 5)], told, &[(4, 1, Held::Start(LOCALS + 5))])?;
-    runs(start, &[step!(keep 6 7)], told, &[(LOCALS + 6, 1, Held::Start(7))])?;
-    runs(start, &[step!(reserve 256)], (Turn::Reserved(256), 0, 0), &[])?;
     runs(
         start,
-        &[step!(reserve 16), step!(store 1 8), step!(back 9 1), step!(back 10 0)],
+        &[step!(fetch 4 5)],
+        told,
+        &[(4, 1, Held::Start(LOCALS + 5))],
+    )?;
+    runs(
+        start,
+        &[step!(keep 6 7)],
+        told,
+        &[(LOCALS + 6, 1, Held::Start(7))],
+    )?;
+    runs(
+        start,
+        &[step!(reserve 256)],
+        (Turn::Reserved(256), 0, 0),
+        &[],
+    )?;
+    runs(
+        start,
+        &[
+            step!(reserve 16),
+            step!(store 1 8),
+            step!(back 9 1),
+            step!(back 10 0),
+        ],
         (Turn::Reserved(16), 0, 0),
         &[
             (OUTGOING + 1, 1, Held::Start(8)),
@@ -166,7 +186,12 @@ fn calls<W: WordKind + PartialEq<W> + Debug>(start: &Cells<W>) -> Result<(), Fai
         (SEEN_REGISTERS, 32, Held::Start(0)),
         (SEEN_OUTGOING, 2, Held::Start(5)),
     ];
-    let call = [step!(reserve 16), step!(store 0 5), step!(store 1 6), step!(call 7 0x0FC7)];
+    let call = [
+        step!(reserve 16),
+        step!(store 0 5),
+        step!(store 1 6),
+        step!(call 7 0x0FC7),
+    ];
     runs(start, &call, (Turn::Called(16), 1, 7), &changes)?;
     runs(
         start,
@@ -183,7 +208,12 @@ fn calls<W: WordKind + PartialEq<W> + Debug>(start: &Cells<W>) -> Result<(), Fai
     // two registers exchanged
     runs(
         start,
-        &[step!(copy 11 6), step!(copy 6 7), step!(copy 7 11), step!(call 7 0x0FC7)],
+        &[
+            step!(copy 11 6),
+            step!(copy 6 7),
+            step!(copy 7 11),
+            step!(call 7 0x0FC7),
+        ],
         (Turn::Bare, 1, 7),
         &[
             (0, 3, Held::Unknown),
@@ -197,7 +227,12 @@ fn calls<W: WordKind + PartialEq<W> + Debug>(start: &Cells<W>) -> Result<(), Fai
     // the latest of two calls
     runs(
         start,
-        &[step!(set 1 50), step!(call 7 2), step!(copy 2 1), step!(call 8 0)],
+        &[
+            step!(set 1 50),
+            step!(call 7 2),
+            step!(copy 2 1),
+            step!(call 8 0),
+        ],
         (Turn::Bare, 2, 8),
         &[
             (1, 2, Held::Unknown),

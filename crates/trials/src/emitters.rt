@@ -142,11 +142,7 @@ fn ends() -> [(Step, Answer); 18] {
 }
 
 // A tape in this buffer answers the steps so, and then has these bytes.
-fn tape_answers(
-    buffer: &mut [u8],
-    script: &[(Step, Answer)],
-    bytes: &[u8],
-) -> Result<(), Fail> {
+fn tape_answers(buffer: &mut [u8], script: &[(Step, Answer)], bytes: &[u8]) -> Result<(), Fail> {
     let free = buffer.len().saturating_sub(bytes.len());
     let mut tape = Tape::open(buffer);
     answers(&mut tape, script)?;

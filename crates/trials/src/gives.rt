@@ -22,10 +22,7 @@ use tape::tapes::Tape;
 use tape::tapes::emits::TapeEmitter;
 
 // Each list is refused for its reason, and leaves the turn and the room as they were.
-fn each_refused<E: Emitter>(
-    emitter: &mut E,
-    lists: &[(&[Step], Refusal)],
-) -> Result<(), Fail> {
+fn each_refused<E: Emitter>(emitter: &mut E, lists: &[(&[Step], Refusal)]) -> Result<(), Fail> {
     let before = (emitter.turn(), emitter.room());
     for (steps, refusal) in lists {
         check_eq(give(emitter, steps), Err(*refusal))?;
@@ -40,15 +37,31 @@ fn bad_lists<E: Emitter>(emitter: &mut E) -> Result<(), Fail> {
         emitter,
         &[
             (
-                &[step!(set 1 2), step!(copy 3 4), step!(copy 32 0), step!(pop 16)],
+                &[
+                    step!(set 1 2),
+                    step!(copy 3 4),
+                    step!(copy 32 0),
+                    step!(pop 16),
+                ],
                 Refusal::OutOfRange,
             ),
-            (&[step!(reserve 16), step!(store 1 0), step!(store 2 0)], Refusal::OutOfRange),
             (
-                &[step!(set 1 2), step!(keep 3 4), step!(pop 16), step!(copy 32 0)],
+                &[step!(reserve 16), step!(store 1 0), step!(store 2 0)],
+                Refusal::OutOfRange,
+            ),
+            (
+                &[
+                    step!(set 1 2),
+                    step!(keep 3 4),
+                    step!(pop 16),
+                    step!(copy 32 0),
+                ],
                 Refusal::OutOfTurn,
             ),
-            (&[step!(reserve 16), step!(call 0 0), step!(copy 0 0)], Refusal::OutOfTurn),
+            (
+                &[step!(reserve 16), step!(call 0 0), step!(copy 0 0)],
+                Refusal::OutOfTurn,
+            ),
         ],
     )
 }
@@ -73,10 +86,19 @@ fn room_for_two() -> Result<(), Fail> {
     each_refused(
         &mut Tape::open(&mut buffer),
         &[
-            (&[step!(copy 1 2), step!(copy 3 4), step!(copy 5 6)], Refusal::NoRoom),
+            (
+                &[step!(copy 1 2), step!(copy 3 4), step!(copy 5 6)],
+                Refusal::NoRoom,
+            ),
             // range and turn come before room
-            (&[step!(copy 1 2), step!(copy 3 4), step!(copy 5 32)], Refusal::OutOfRange),
-            (&[step!(copy 1 2), step!(copy 3 4), step!(pop 16)], Refusal::OutOfTurn),
+            (
+                &[step!(copy 1 2), step!(copy 3 4), step!(copy 5 32)],
+                Refusal::OutOfRange,
+            ),
+            (
+                &[step!(copy 1 2), step!(copy 3 4), step!(pop 16)],
+                Refusal::OutOfTurn,
+            ),
         ],
     )?;
     filled(&buffer, &[])

@@ -17,7 +17,11 @@ fn prints(rt: &LibcRuntime, step: Step, text: &str) -> Result<(), Fail> {
 #[test]
 fn steps(rt: LibcRuntime) -> Result<(), Fail> {
     prints(&rt, step!(copy 1 2), "copy 1 2")?;
-    prints(&rt, step!(set 3 18446744073709551615), "set 3 18446744073709551615")?;
+    prints(
+        &rt,
+        step!(set 3 18446744073709551615),
+        "set 3 18446744073709551615",
+    )?;
     prints(&rt, step!(fetch 4 5), "fetch 4 5")?;
     prints(&rt, step!(back 6 7), "back 6 7")?;
     prints(&rt, step!(store 8 9), "store 8 9")?;
@@ -39,5 +43,8 @@ fn origins(rt: LibcRuntime) -> Result<(), Fail> {
     let heap = rt.alloc();
     let (register, slot) = (Origin::Register(Register(6)), Origin::Local(LocalSlot(3)));
     let (number, unknown) = (Origin::Number(5), Origin::Unknown);
-    check_eq(format!(heap, "{register} {slot} {number} {unknown}")?.as_str(), "r6 l3 k5 ?")
+    check_eq(
+        format!(heap, "{register} {slot} {number} {unknown}")?.as_str(),
+        "r6 l3 k5 ?",
+    )
 }

@@ -50,12 +50,33 @@ fn rewrites(
 #[test]
 fn exchange() -> Result<(), Fail> {
     writes(
-        &[step!(copy 11 6), step!(copy 6 7), step!(copy 7 11), step!(call 7 0x0000_0FC7)],
+        &[
+            step!(copy 11 6),
+            step!(copy 6 7),
+            step!(copy 7 11),
+            step!(call 7 0x0000_0FC7),
+        ],
         &mut [0xEE; 28],
         Ok(18),
         &[
-            0x01, 0x0B, 0x06, 0x01, 0x06, 0x07, 0x01, 0x07, 0x0B, 0x08, 0x07, 0x00, 0x00, 0x00, 0xC7,
-            0x0F, 0x00, 0x00,
+            0x01,
+            0x0B,
+            0x06,
+            0x01,
+            0x06,
+            0x07,
+            0x01,
+            0x07,
+            0x0B,
+            0x08,
+            0x07,
+            0x00,
+            0x00,
+            0x00,
+            0xC7,
+            0x0F,
+            0x00,
+            0x00,
         ],
     )
 }
@@ -71,10 +92,20 @@ fn bytes_to_spare() -> Result<(), Fail> {
 // Range and turn come before room.
 #[test]
 fn bad_steps() -> Result<(), Fail> {
-    let range = [step!(copy 1 2), step!(copy 3 4), step!(copy 32 0), step!(pop 16)];
+    let range = [
+        step!(copy 1 2),
+        step!(copy 3 4),
+        step!(copy 32 0),
+        step!(pop 16),
+    ];
     writes(&range, &mut [0xEE; 64], Err(Refusal::OutOfRange), &[])?;
     writes(&range, &mut [0xEE; 9], Err(Refusal::OutOfRange), &[])?;
-    let turn = [step!(copy 1 2), step!(copy 3 4), step!(pop 16), step!(copy 32 0)];
+    let turn = [
+        step!(copy 1 2),
+        step!(copy 3 4),
+        step!(pop 16),
+        step!(copy 32 0),
+    ];
     writes(&turn, &mut [0xEE; 64], Err(Refusal::OutOfTurn), &[])?;
     writes(&turn, &mut [0xEE; 9], Err(Refusal::OutOfTurn), &[])
 }
@@ -82,7 +113,12 @@ fn bad_steps() -> Result<(), Fail> {
 #[test]
 fn again() -> Result<(), Fail> {
     rewrites(&TAPE, &mut [0xEE; 54], Ok(44), &TAPE)?;
-    rewrites(&TAPE, &mut [0xEE; 53], Err(RewriteError::Buffer(Refusal::NoRoom)), &[])
+    rewrites(
+        &TAPE,
+        &mut [0xEE; 53],
+        Err(RewriteError::Buffer(Refusal::NoRoom)),
+        &[],
+    )
 }
 
 // The last command is cut short, which comes before room.
@@ -92,8 +128,18 @@ fn again_but_damaged() -> Result<(), Fail> {
         refusal: Refusal::CutShort,
         place: 40,
     };
-    rewrites(&TAPE[0..43], &mut [0xEE; 64], Err(RewriteError::Tape(fault)), &[])?;
-    rewrites(&TAPE[0..43], &mut [0xEE; 9], Err(RewriteError::Tape(fault)), &[])
+    rewrites(
+        &TAPE[0..43],
+        &mut [0xEE; 64],
+        Err(RewriteError::Tape(fault)),
+        &[],
+    )?;
+    rewrites(
+        &TAPE[0..43],
+        &mut [0xEE; 9],
+        Err(RewriteError::Tape(fault)),
+        &[],
+    )
 }
 
 #[test]
@@ -113,5 +159,8 @@ fn not_read_while_reserved(rt: LibcRuntime) -> Result<(), Fail> {
         refusal: Refusal::OutOfTurn,
         place: 3,
     };
-    check_eq(read_back(rt.alloc(), &tape).err(), Some(ReadError::Refused(fault)))
+    check_eq(
+        read_back(rt.alloc(), &tape).err(),
+        Some(ReadError::Refused(fault)),
+    )
 }
