@@ -53,7 +53,7 @@ pub const TAPE: [u8; 44] = [
 pub const PLACES: [usize; 10] = [0, 3, 13, 17, 20, 24, 28, 37, 40, 44];
 
 // The buffer begins with these bytes, and goes on as it was.
-pub fn filled(buffer: &[u8], bytes: &[u8]) -> Result<(), Fail> {
+pub(crate) fn filled(buffer: &[u8], bytes: &[u8]) -> Result<(), Fail> {
     check_eq(buffer.get(0..bytes.len()), Some(bytes))?;
     for byte in buffer.iter().skip(bytes.len()) {
         check_eq(*byte, 0xEE)?;

@@ -20,7 +20,7 @@ pub const SEEN_REGISTERS: usize = 1088;
 pub const SEEN_OUTGOING: usize = 1120;
 
 // Words that are each the number of their cell.
-pub fn numbered() -> Cells<Word> {
+pub(crate) fn numbered() -> Cells<Word> {
     let mut cells = [Word::Unknown; 1152];
     for i in 0..1152 {
         cells[i] = Word::Number(i as u64);
@@ -29,21 +29,21 @@ pub fn numbered() -> Cells<Word> {
 }
 
 // Registers and local slots that are their own origins.
-pub fn own() -> Result<Cells<Origin>, Fail> {
+pub(crate) fn own() -> Result<Cells<Origin>, Fail> {
     let mut cells = [Origin::Number(0); 1152];
     own_origins(&mut cells)?;
     Ok(cells)
 }
 
 // The cells as a bench opens on them.
-pub fn opened<W: WordKind>(mut cells: Cells<W>) -> Cells<W> {
+pub(crate) fn opened<W: WordKind>(mut cells: Cells<W>) -> Cells<W> {
     for i in OUTGOING..1152 {
         cells[i] = W::unknown();
     }
     cells
 }
 
-pub fn same<W: WordKind + PartialEq<W> + Debug>(
+pub(crate) fn same<W: WordKind + PartialEq<W> + Debug>(
     cells: &Cells<W>,
     expected: &Cells<W>,
 ) -> Result<(), Fail> {

@@ -55,7 +55,7 @@ macro_rules! step {
 
 pub(crate) use step;
 
-pub fn all_nine() -> [Step; 9] {
+pub(crate) fn all_nine() -> [Step; 9] {
     [
         step!(copy 1 2),
         step!(set 3 0x1122_3344_5566_7788),
