@@ -92,29 +92,35 @@ fn changed<W: WordKind>(start: &Cells<W>, changes: &[Change]) -> Cells<W> {
     cells
 }
 
-// The bench tells of a call step what the last cells hold.
+// The bench tells of the latest call step what the last cells hold.
 fn sees<W: WordKind + PartialEq<W> + Debug>(
     bench: &Bench<W>,
     cells: &Cells<W>,
 ) -> Result<(), Fail> {
-    for r in 0..32 {
-        let seen = cells[SEEN_REGISTERS + r as usize];
-        check_eq(bench.seen_register(Register(r)), Some(seen))?;
+    for i in 0..32 {
+        let seen = (
+            bench.seen_register(Register(i)),
+            bench.seen_outgoing(OutgoingSlot(i as u16)),
+        );
+        let register = cells[SEEN_REGISTERS + i as usize];
+        let outgoing = cells[SEEN_OUTGOING + i as usize];
+        check_eq(seen, (Some(register), Some(outgoing)))?;
     }
-    for o in 0..32 {
-        let seen = cells[SEEN_OUTGOING + o as usize];
-        check_eq(bench.seen_outgoing(OutgoingSlot(o)), Some(seen))?;
-    }
-    check_eq(bench.seen_register(Register(32)), None)?;
-    check_eq(bench.seen_outgoing(OutgoingSlot(32)), None)
+    let seen = (
+        bench.seen_register(Register(32)),
+        bench.seen_outgoing(OutgoingSlot(32)),
+    );
+    check_eq(seen, (None, None))
 }
 
-// A bench over these cells takes the steps, then tells this turn, this many calls and this routine, and
-// has changed just these cells.
+// what a bench tells: its turn, its calls and the latest routine
+type Told = (Turn, u32, u32);
+
+// A bench over these cells takes the steps, and then tells this and has these changes, and no other.
 fn runs<W: WordKind + PartialEq<W> + Debug>(
     start: &Cells<W>,
     steps: &[Step],
-    told: (Turn, u32, u32),
+    told: Told,
     changes: &[Change],
 ) -> Result<(), Fail> {
     let expected = changed(start, changes);
@@ -127,43 +133,57 @@ fn runs<W: WordKind + PartialEq<W> + Debug>(
     same(&cells, &expected)
 }
 
-// Without a call.
+fn each_runs<W: WordKind + PartialEq<W> + Debug>(
+    start: &Cells<W>,
+    table: &[(&[Step], Told, &[Change])],
+) -> Result<(), Fail> {
+    for (steps, told, changes) in table {
+        runs(start, steps, *told, changes)?;
+    }
+    Ok(())
+}
+
+// Every step but call and pop.
 fn moves<W: WordKind + PartialEq<W> + Debug>(start: &Cells<W>) -> Result<(), Fail> {
-    let told = (Turn::Bare, 0, 0);
-    runs(start, &[], told, &[])?;
-    runs(start, &[step!(copy 1 2)], told, &[(1, 1, Held::Start(2))])?;
-    runs(start, &[step!(set 3 99)], told, &[(3, 1, Held::Number(99))])?;
-    runs(
-        start,
-        &[step!(fetch 4 5)],
-        told,
-        &[(4, 1, Held::Start(LOCALS + 5))],
-    )?;
-    runs(
-        start,
-        &[step!(keep 6 7)],
-        told,
-        &[(LOCALS + 6, 1, Held::Start(7))],
-    )?;
-    runs(
-        start,
-        &[step!(reserve 256)],
-        (Turn::Reserved(256), 0, 0),
-        &[],
-    )?;
-    runs(
+    each_runs(
         start,
         &[
-            step!(reserve 16),
-            step!(store 1 8),
-            step!(back 9 1),
-            step!(back 10 0),
-        ],
-        (Turn::Reserved(16), 0, 0),
-        &[
-            (OUTGOING + 1, 1, Held::Start(8)),
-            (9, 1, Held::Start(8)),
-            (10, 1, Held::Unknown),
+            (&[], (Turn::Bare, 0, 0), &[]),
+            (
+                &[step!(copy 1 2)],
+                (Turn::Bare, 0, 0),
+                &[(1, 1, Held::Start(2))],
+            ),
+            (
+                &[step!(set 3 99)],
+                (Turn::Bare, 0, 0),
+                &[(3, 1, Held::Number(99))],
+            ),
+            (
+                &[step!(fetch 4 5)],
+                (Turn::Bare, 0, 0),
+                &[(4, 1, Held::Start(LOCALS + 5))],
+            ),
+            (
+                &[step!(keep 6 7)],
+                (Turn::Bare, 0, 0),
+                &[(LOCALS + 6, 1, Held::Start(7))],
+            ),
+            (&[step!(reserve 256)], (Turn::Reserved(256), 0, 0), &[]),
+            (
+                &[
+                    step!(reserve 16),
+                    step!(store 1 8),
+                    step!(back 9 1),
+                    step!(back 10 0),
+                ],
+                (Turn::Reserved(16), 0, 0),
+                &[
+                    (OUTGOING + 1, 1, Held::Start(8)),
+                    (9, 1, Held::Start(8)),
+                    (10, 1, Held::Unknown),
+                ],
+            ),
         ],
     )
 }
@@ -178,66 +198,77 @@ fn moves_of_origins() -> Result<(), Fail> {
     moves(&own()?)
 }
 
-// Calls that lose the registers of 0x0FC7, which are 0 to 2 and 6 to 11.
+// The registers of 0x0FC7, which a call loses, are 0 to 2 and 6 to 11.
 fn calls<W: WordKind + PartialEq<W> + Debug>(start: &Cells<W>) -> Result<(), Fail> {
-    let changes = [
-        (0, 3, Held::Unknown),
-        (6, 6, Held::Unknown),
-        (SEEN_REGISTERS, 32, Held::Start(0)),
-        (SEEN_OUTGOING, 2, Held::Start(5)),
-    ];
-    let call = [
-        step!(reserve 16),
-        step!(store 0 5),
-        step!(store 1 6),
-        step!(call 7 0x0FC7),
-    ];
-    runs(start, &call, (Turn::Called(16), 1, 7), &changes)?;
-    runs(
+    each_runs(
         start,
         &[
-            step!(reserve 16),
-            step!(store 0 5),
-            step!(store 1 6),
-            step!(call 7 0x0FC7),
-            step!(pop 16),
-        ],
-        (Turn::Bare, 1, 7),
-        &changes,
-    )?;
-    // two registers exchanged
-    runs(
-        start,
-        &[
-            step!(copy 11 6),
-            step!(copy 6 7),
-            step!(copy 7 11),
-            step!(call 7 0x0FC7),
-        ],
-        (Turn::Bare, 1, 7),
-        &[
-            (0, 3, Held::Unknown),
-            (6, 6, Held::Unknown),
-            (SEEN_REGISTERS, 32, Held::Start(0)),
-            (SEEN_REGISTERS + 6, 1, Held::Start(7)),
-            (SEEN_REGISTERS + 7, 1, Held::Start(6)),
-            (SEEN_REGISTERS + 11, 1, Held::Start(6)),
-        ],
-    )?;
-    // the latest of two calls
-    runs(
-        start,
-        &[
-            step!(set 1 50),
-            step!(call 7 2),
-            step!(copy 2 1),
-            step!(call 8 0),
-        ],
-        (Turn::Bare, 2, 8),
-        &[
-            (1, 2, Held::Unknown),
-            (SEEN_REGISTERS, 32, Held::Start(0)),
-            (SEEN_REGISTERS + 1, 2, Held::Unknown),
+            (
+                &[
+                    step!(reserve 16),
+                    step!(store 0 5),
+                    step!(store 1 6),
+                    step!(call 7 0x0FC7),
+                ],
+                (Turn::Called(16), 1, 7),
+                &[
+                    (0, 3, Held::Unknown),
+                    (6, 6, Held::Unknown),
+                    (SEEN_REGISTERS, 32, Held::Start(0)),
+                    (SEEN_OUTGOING, 2, Held::Start(5)),
+                ],
+            ),
+            // popped, and reserved again
+            (
+                &[
+                    step!(reserve 16),
+                    step!(store 0 5),
+                    step!(call 7 0x0FC7),
+                    step!(pop 16),
+                    step!(reserve 32),
+                    step!(back 12 0),
+                ],
+                (Turn::Reserved(32), 1, 7),
+                &[
+                    (0, 3, Held::Unknown),
+                    (6, 7, Held::Unknown),
+                    (SEEN_REGISTERS, 32, Held::Start(0)),
+                    (SEEN_OUTGOING, 1, Held::Start(5)),
+                ],
+            ),
+            // two registers exchanged
+            (
+                &[
+                    step!(copy 11 6),
+                    step!(copy 6 7),
+                    step!(copy 7 11),
+                    step!(call 7 0x0FC7),
+                ],
+                (Turn::Bare, 1, 7),
+                &[
+                    (0, 3, Held::Unknown),
+                    (6, 6, Held::Unknown),
+                    (SEEN_REGISTERS, 32, Held::Start(0)),
+                    (SEEN_REGISTERS + 6, 1, Held::Start(7)),
+                    (SEEN_REGISTERS + 7, 1, Held::Start(6)),
+                    (SEEN_REGISTERS + 11, 1, Held::Start(6)),
+                ],
+            ),
+            // the latest of two
+            (
+                &[
+                    step!(set 1 50),
+                    step!(call 7 2),
+                    step!(copy 2 1),
+                    step!(call 8 0),
+                ],
+                (Turn::Bare, 2, 8),
+                &[
+                    (1, 2, Held::Unknown),
+                    (SEEN_REGISTERS, 32, Held::Start(0)),
+                    (SEEN_REGISTERS + 1, 2, Held::Unknown),
+                ],
+            ),
         ],
     )
 }

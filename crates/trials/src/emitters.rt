@@ -1,7 +1,7 @@
 // Tests of what every emitter takes and refuses, on a tape and on a bench.
-use crate::buffers::filled;
 use crate::cells::*;
 use crate::steps::step;
+use crate::tapes::filled;
 use bench::benches::Bench;
 use bench::benches::emits::BenchEmitter;
 use bench::kinds::PlainWords;
@@ -44,9 +44,9 @@ fn answers<E: Emitter>(emitter: &mut E, script: &[(Step, Answer)]) -> Result<(),
     Ok(())
 }
 
-// Refusals at each turn. Out of range comes before out of turn.
-fn when_bare() -> [(Step, Answer); 19] {
-    [
+// Refusals at every turn, around a call that loses nothing. Out of range comes before out of turn.
+fn around_a_call() -> &'static [(Step, Answer)] {
+    &[
         (step!(copy 32 0), RANGE),
         (step!(copy 0 32), RANGE),
         (step!(set 32 0), RANGE),
@@ -66,11 +66,6 @@ fn when_bare() -> [(Step, Answer); 19] {
         (step!(pop 272), RANGE),
         (step!(pop 16), TURN),
         (step!(pop 256), TURN),
-    ]
-}
-
-fn when_reserved() -> [(Step, Answer); 12] {
-    [
         (step!(reserve 16), TAKEN),
         (step!(copy 32 0), RANGE),
         (step!(store 2 0), RANGE),
@@ -83,11 +78,6 @@ fn when_reserved() -> [(Step, Answer); 12] {
         (step!(reserve 256), TURN),
         (step!(pop 16), TURN),
         (step!(pop 32), TURN),
-    ]
-}
-
-fn when_called() -> [(Step, Answer); 19] {
-    [
         (step!(call 0 0), TAKEN),
         (step!(copy 32 0), RANGE),
         (step!(set 32 0), RANGE),
@@ -107,19 +97,13 @@ fn when_called() -> [(Step, Answer); 19] {
         (step!(call 0 0), TURN),
         (step!(pop 32), TURN),
         (step!(pop 16), TAKEN),
+        (step!(pop 16), TURN),
     ]
 }
 
-fn around_a_call<E: Emitter>(emitter: &mut E) -> Result<(), Fail> {
-    answers(emitter, &when_bare())?;
-    answers(emitter, &when_reserved())?;
-    answers(emitter, &when_called())?;
-    answers(emitter, &when_bare())
-}
-
 // The last of each range that is taken, and the first that is not.
-fn ends() -> [(Step, Answer); 18] {
-    [
+fn ends() -> &'static [(Step, Answer)] {
+    &[
         (step!(copy 31 31), TAKEN),
         (step!(set 31 0xFFFF_FFFF_FFFF_FFFF), TAKEN),
         (step!(fetch 31 1023), TAKEN),
@@ -153,17 +137,18 @@ fn tape_answers(buffer: &mut [u8], script: &[(Step, Answer)], bytes: &[u8]) -> R
 
 #[test]
 fn tape_around_a_call() -> Result<(), Fail> {
-    let mut buffer = [0xEE; 32];
-    around_a_call(&mut Tape::open(&mut buffer))?;
-    // reserve, call and pop
-    filled(&buffer, &[7, 16, 0, 8, 0, 0, 0, 0, 0, 0, 0, 0, 9, 16, 0])
+    tape_answers(
+        &mut [0xEE; 32],
+        around_a_call(),
+        &[7, 16, 0, 8, 0, 0, 0, 0, 0, 0, 0, 0, 9, 16, 0],
+    )
 }
 
 #[test]
 fn bench_around_a_call() -> Result<(), Fail> {
     let start = numbered();
     let mut cells = start;
-    around_a_call(&mut Bench::make(&mut cells))?;
+    answers(&mut Bench::make(&mut cells), around_a_call())?;
     // the call step has seen the registers, and all else is as it was
     let mut expected = opened(start);
     for r in 0..32 {
@@ -176,14 +161,14 @@ fn bench_around_a_call() -> Result<(), Fail> {
 fn tape_ends() -> Result<(), Fail> {
     let mut buffer = [0xEE; 128];
     let mut tape = Tape::open(&mut buffer);
-    answers(&mut tape, &ends())?;
+    answers(&mut tape, ends())?;
     check_eq(check_tape(tape.bytes()), Ok(()))
 }
 
 #[test]
 fn bench_ends() -> Result<(), Fail> {
     let mut cells = numbered();
-    answers(&mut Bench::make(&mut cells), &ends())
+    answers(&mut Bench::make(&mut cells), ends())
 }
 
 // With nine free bytes there is no room, which comes after range and turn.

@@ -1,9 +1,9 @@
 // Tests of giving a list of steps: all of them or none, to a tape and to a bench.
-use crate::buffers::TAPE;
-use crate::buffers::filled;
 use crate::cells::*;
-use crate::steps::all_nine;
 use crate::steps::step;
+use crate::tapes::TAPE;
+use crate::tapes::all_nine;
+use crate::tapes::filled;
 use bench::benches::Bench;
 use bench::benches::emits::BenchEmitter;
 use bench::kinds::PlainWords;
@@ -32,51 +32,48 @@ fn each_refused<E: Emitter>(emitter: &mut E, lists: &[(&[Step], Refusal)]) -> Re
 }
 
 // The third step is the first to be refused, and says why.
-fn bad_lists<E: Emitter>(emitter: &mut E) -> Result<(), Fail> {
-    each_refused(
-        emitter,
-        &[
-            (
-                &[
-                    step!(set 1 2),
-                    step!(copy 3 4),
-                    step!(copy 32 0),
-                    step!(pop 16),
-                ],
-                Refusal::OutOfRange,
-            ),
-            (
-                &[step!(reserve 16), step!(store 1 0), step!(store 2 0)],
-                Refusal::OutOfRange,
-            ),
-            (
-                &[
-                    step!(set 1 2),
-                    step!(keep 3 4),
-                    step!(pop 16),
-                    step!(copy 32 0),
-                ],
-                Refusal::OutOfTurn,
-            ),
-            (
-                &[step!(reserve 16), step!(call 0 0), step!(copy 0 0)],
-                Refusal::OutOfTurn,
-            ),
-        ],
-    )
+fn bad_lists() -> &'static [(&'static [Step], Refusal)] {
+    &[
+        (
+            &[
+                step!(set 1 2),
+                step!(copy 3 4),
+                step!(copy 32 0),
+                step!(pop 16),
+            ],
+            Refusal::OutOfRange,
+        ),
+        (
+            &[step!(reserve 16), step!(store 1 0), step!(store 2 0)],
+            Refusal::OutOfRange,
+        ),
+        (
+            &[
+                step!(set 1 2),
+                step!(keep 3 4),
+                step!(pop 16),
+                step!(copy 32 0),
+            ],
+            Refusal::OutOfTurn,
+        ),
+        (
+            &[step!(reserve 16), step!(call 0 0), step!(copy 0 0)],
+            Refusal::OutOfTurn,
+        ),
+    ]
 }
 
 #[test]
 fn bad_lists_on_a_tape() -> Result<(), Fail> {
     let mut buffer = [0xEE; 64];
-    bad_lists(&mut Tape::open(&mut buffer))?;
+    each_refused(&mut Tape::open(&mut buffer), bad_lists())?;
     filled(&buffer, &[])
 }
 
 #[test]
 fn bad_lists_on_a_bench() -> Result<(), Fail> {
     let mut cells = numbered();
-    bad_lists(&mut Bench::make(&mut cells))?;
+    each_refused(&mut Bench::make(&mut cells), bad_lists())?;
     same(&cells, &opened(numbered()))
 }
 
@@ -137,5 +134,5 @@ fn room_for_three() -> Result<(), Fail> {
 
 #[test]
 fn all_steps() -> Result<(), Fail> {
-    tape_takes(&mut [0xEE; 90], &all_nine(), &TAPE)
+    tape_takes(&mut [0xEE; 90], all_nine(), TAPE)
 }

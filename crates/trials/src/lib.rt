@@ -2,8 +2,6 @@
 #[cfg(test)]
 mod benches;
 #[cfg(test)]
-mod buffers;
-#[cfg(test)]
 mod cells;
 #[cfg(test)]
 mod emitters;
@@ -17,5 +15,7 @@ mod readers;
 mod refusals;
 #[cfg(test)]
 mod steps;
+#[cfg(test)]
+mod tapes;
 #[cfg(test)]
 mod whole;

@@ -1,7 +1,6 @@
 // Tests of the reader: each refusal with its place, and the parts that it hands out.
-use crate::buffers::PLACES;
-use crate::buffers::TAPE;
-use crate::steps::all_nine;
+use crate::steps::step;
+use crate::tapes::TAPE;
 use machine::steps::Step;
 use machine::steps::StepDebug;
 use machine::steps::StepPartialEq;
@@ -66,7 +65,7 @@ fn unknown(rt: LibcRuntime) -> Result<(), Fail> {
             (BARE, &[0x0A]),
             (BARE, &[0xFF]),
             (&[1, 0, 0, 3, 0, 0, 0], &[0x0A, 1, 0, 0]),
-            // also where no command, or none but a pop, would be in turn
+            // at the other turns, too
             (RESERVED, &[0x00]),
             (CALLED, &[0xFF]),
         ],
@@ -173,45 +172,72 @@ fn out_of_turn(rt: LibcRuntime) -> Result<(), Fail> {
     )
 }
 
-#[test]
-fn longest(rt: LibcRuntime) -> Result<(), Fail> {
-    let heap = rt.alloc();
+// 65,536 bytes of commands.
+fn longest_tape(heap: Global) -> Result<Vec<u8>, AllocError> {
     let mut tape = Vec::new(heap);
     for _ in 0..21_844 {
         tape.extend_from_slice(&[1, 0, 0])?;
     }
     tape.extend_from_slice(&[3, 0, 0, 0])?;
-    check_eq(tape.len(), 65_536)?;
-    check_tape(&tape)?;
-    check_eq(read_tape(heap, &tape)?.len(), 21_845)?;
-    tape.push(1)?;
-    refused(heap, &tape, 45, 0)
+    Ok(tape)
 }
 
 #[test]
-fn too_long_first(rt: LibcRuntime) -> Result<(), Fail> {
-    let heap = rt.alloc();
-    let tape = vec![in heap; 0; 65_537]?;
-    refused(heap, &tape, 45, 0)
+fn longest(rt: LibcRuntime) -> Result<(), Fail> {
+    let tape = longest_tape(rt.alloc())?;
+    check_eq(tape.len(), 65_536)?;
+    check_eq(check_tape(&tape), Ok(()))?;
+    check_eq(read_tape(rt.alloc(), &tape)?.len(), 21_845)
 }
 
-// The next part begins at this place, ends at that one, and is so much of the tape.
-fn hands_out(reader: &mut Reader, step: Step, from: usize, to: usize) -> Result<(), Fail> {
+#[test]
+fn too_long(rt: LibcRuntime) -> Result<(), Fail> {
+    let mut tape = longest_tape(rt.alloc())?;
+    tape.push(1)?;
+    refused(rt.alloc(), &tape, 45, 0)
+}
+
+#[test]
+fn too_long_and_unknown(rt: LibcRuntime) -> Result<(), Fail> {
+    let tape = vec![in rt.alloc(); 0; 65_537]?;
+    refused(rt.alloc(), &tape, 45, 0)
+}
+
+// The parts of the tape: step, place and bytes.
+fn parts() -> &'static [(Step, usize, &'static [u8])] {
+    &[
+        (step!(copy 1 2), 0, &[0x01, 0x01, 0x02]),
+        (
+            step!(set 3 0x1122_3344_5566_7788),
+            3,
+            &[0x02, 0x03, 0x88, 0x77, 0x66, 0x55, 0x44, 0x33, 0x22, 0x11],
+        ),
+        (step!(fetch 4 0x0102), 13, &[0x03, 0x04, 0x02, 0x01]),
+        (step!(reserve 256), 17, &[0x07, 0x00, 0x01]),
+        (step!(store 31 5), 20, &[0x05, 0x1F, 0x00, 0x05]),
+        (step!(back 6 7), 24, &[0x04, 0x06, 0x07, 0x00]),
+        (
+            step!(call 0x0A0B_0C0D 0xF0E0_D0C0),
+            28,
+            &[0x08, 0x0D, 0x0C, 0x0B, 0x0A, 0xC0, 0xD0, 0xE0, 0xF0],
+        ),
+        (step!(pop 256), 37, &[0x09, 0x00, 0x01]),
+        (step!(keep 1023 8), 40, &[0x06, 0xFF, 0x03, 0x08]),
+    ]
+}
+
+fn hands_out(reader: &mut Reader, step: Step, place: usize, bytes: &[u8]) -> Result<(), Fail> {
     let Some(part) = reader.next_command()? else {
         return Err(Fail::new("the tape has ended"));
     };
-    check_eq(part.step, step)?;
-    check_eq(part.place, from)?;
-    check_eq(Some(part.bytes), TAPE.get(from..to))
+    check_eq((part.step, part.place, part.bytes), (step, place, bytes))
 }
 
 #[test]
-fn parts() -> Result<(), Fail> {
-    let mut reader = Reader::open(&TAPE);
-    let steps = all_nine();
-    for i in 0..9 {
-        hands_out(&mut reader, steps[i], PLACES[i], PLACES[i + 1])?;
+fn each_part() -> Result<(), Fail> {
+    let mut reader = Reader::open(TAPE);
+    for (step, place, bytes) in parts() {
+        hands_out(&mut reader, *step, *place, bytes)?;
     }
-    check(reader.next_command()?.is_none())?;
     check(reader.next_command()?.is_none())
 }

@@ -4,7 +4,7 @@ use std::test::*;
 
 #[test]
 fn numbers() -> Result<(), Fail> {
-    let numbers = [
+    let numbers: &[(Refusal, u8)] = &[
         (Refusal::ListFull, 11),
         (Refusal::NoSuchRegister, 12),
         (Refusal::NoSuchLocalSlot, 13),
@@ -22,7 +22,7 @@ fn numbers() -> Result<(), Fail> {
         (Refusal::TooLong, 45),
     ];
     for (refusal, number) in numbers {
-        check_eq(refusal.number(), number)?;
+        check_eq(refusal.number(), *number)?;
     }
     Ok(())
 }

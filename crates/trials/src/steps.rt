@@ -1,5 +1,4 @@
-// Steps in short, and a list of all nine, for the tests.
-use machine::steps::Step;
+// Steps in short, for the tests.
 
 // A step as `copy 1 2`: what it writes comes first.
 macro_rules! step {
@@ -54,17 +53,3 @@ macro_rules! step {
 }
 
 pub(crate) use step;
-
-pub(crate) fn all_nine() -> [Step; 9] {
-    [
-        step!(copy 1 2),
-        step!(set 3 0x1122_3344_5566_7788),
-        step!(fetch 4 0x0102),
-        step!(reserve 256),
-        step!(store 31 5),
-        step!(back 6 7),
-        step!(call 0x0A0B_0C0D 0xF0E0_D0C0),
-        step!(pop 256),
-        step!(keep 1023 8),
-    ]
-}

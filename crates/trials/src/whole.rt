@@ -1,8 +1,8 @@
 // Tests of whole tapes: written, written again and read back.
-use crate::buffers::TAPE;
-use crate::buffers::filled;
-use crate::steps::all_nine;
 use crate::steps::step;
+use crate::tapes::TAPE;
+use crate::tapes::all_nine;
+use crate::tapes::filled;
 use machine::emitters::Emitter;
 use machine::emitters::give;
 use machine::refusals::Refusal;
@@ -58,33 +58,14 @@ fn exchange() -> Result<(), Fail> {
         ],
         &mut [0xEE; 28],
         Ok(18),
-        &[
-            0x01,
-            0x0B,
-            0x06,
-            0x01,
-            0x06,
-            0x07,
-            0x01,
-            0x07,
-            0x0B,
-            0x08,
-            0x07,
-            0x00,
-            0x00,
-            0x00,
-            0xC7,
-            0x0F,
-            0x00,
-            0x00,
-        ],
+        b"\x01\x0B\x06\x01\x06\x07\x01\x07\x0B\x08\x07\x00\x00\x00\xC7\x0F\x00\x00",
     )
 }
 
 #[test]
 fn bytes_to_spare() -> Result<(), Fail> {
-    writes(&all_nine(), &mut [0xEE; 54], Ok(44), &TAPE)?;
-    writes(&all_nine(), &mut [0xEE; 53], Err(Refusal::NoRoom), &[])?;
+    writes(all_nine(), &mut [0xEE; 54], Ok(44), TAPE)?;
+    writes(all_nine(), &mut [0xEE; 53], Err(Refusal::NoRoom), &[])?;
     writes(&[], &mut [0xEE; 10], Ok(0), &[])?;
     writes(&[], &mut [0xEE; 9], Err(Refusal::NoRoom), &[])
 }
@@ -92,62 +73,52 @@ fn bytes_to_spare() -> Result<(), Fail> {
 // Range and turn come before room.
 #[test]
 fn bad_steps() -> Result<(), Fail> {
-    let range = [
+    let range: &[Step] = &[
         step!(copy 1 2),
         step!(copy 3 4),
         step!(copy 32 0),
         step!(pop 16),
     ];
-    writes(&range, &mut [0xEE; 64], Err(Refusal::OutOfRange), &[])?;
-    writes(&range, &mut [0xEE; 9], Err(Refusal::OutOfRange), &[])?;
-    let turn = [
+    writes(range, &mut [0xEE; 64], Err(Refusal::OutOfRange), &[])?;
+    writes(range, &mut [0xEE; 9], Err(Refusal::OutOfRange), &[])?;
+    let turn: &[Step] = &[
         step!(copy 1 2),
         step!(copy 3 4),
         step!(pop 16),
         step!(copy 32 0),
     ];
-    writes(&turn, &mut [0xEE; 64], Err(Refusal::OutOfTurn), &[])?;
-    writes(&turn, &mut [0xEE; 9], Err(Refusal::OutOfTurn), &[])
+    writes(turn, &mut [0xEE; 64], Err(Refusal::OutOfTurn), &[])?;
+    writes(turn, &mut [0xEE; 9], Err(Refusal::OutOfTurn), &[])
 }
 
 #[test]
 fn again() -> Result<(), Fail> {
-    rewrites(&TAPE, &mut [0xEE; 54], Ok(44), &TAPE)?;
+    rewrites(TAPE, &mut [0xEE; 54], Ok(44), TAPE)?;
     rewrites(
-        &TAPE,
+        TAPE,
         &mut [0xEE; 53],
         Err(RewriteError::Buffer(Refusal::NoRoom)),
         &[],
     )
 }
 
-// The last command is cut short, which comes before room.
+// The second command is cut short, which comes before room.
 #[test]
 fn again_but_damaged() -> Result<(), Fail> {
-    let fault = Fault {
+    let error = RewriteError::Tape(Fault {
         refusal: Refusal::CutShort,
-        place: 40,
-    };
-    rewrites(
-        &TAPE[0..43],
-        &mut [0xEE; 64],
-        Err(RewriteError::Tape(fault)),
-        &[],
-    )?;
-    rewrites(
-        &TAPE[0..43],
-        &mut [0xEE; 9],
-        Err(RewriteError::Tape(fault)),
-        &[],
-    )
+        place: 3,
+    });
+    rewrites(&[1, 0, 0, 1, 0], &mut [0xEE; 64], Err(error), &[])?;
+    rewrites(&[1, 0, 0, 1, 0], &mut [0xEE; 9], Err(error), &[])
 }
 
 #[test]
 fn read_as_written(rt: LibcRuntime) -> Result<(), Fail> {
     let mut buffer = [0xEE; 90];
     let mut tape = Tape::open(&mut buffer);
-    give(&mut tape, &all_nine())?;
-    check_eq(read_back(rt.alloc(), &tape)?.as_slice(), &all_nine())
+    give(&mut tape, all_nine())?;
+    check_eq(read_back(rt.alloc(), &tape)?.as_slice(), all_nine())
 }
 
 #[test]
