@@ -18,7 +18,7 @@ use std::alloc::{AllocError, Global};
 
 // The register where argument i goes; refused where it goes to an outgoing slot.
 fn argument_register<C: Convention>(convention: &C, i: u8) -> Result<Register, Refusal>
-    ensures { result ≡ argument_register ((answers convention.now).place i) }
+    ensures { result ≡ argument_register ((C.answers convention.now).place i) }
 {
     match convention.place(i) {
         Place::Register(register) => Ok(register),
@@ -28,7 +28,7 @@ fn argument_register<C: Convention>(convention: &C, i: u8) -> Result<Register, R
 
 // Each of the first two arguments comes from the other's register.
 pub(crate) fn exchange<C: Convention>(convention: &C) -> Result<[Source; 2], Refusal>
-    ensures { IfOk result (Exchanged (answers convention.now)) }
+    ensures { IfOk result (Exchanged (C.answers convention.now)) }
 {
     let first = argument_register(convention, 0)?;
     let second = argument_register(convention, 1)?;
@@ -70,7 +70,7 @@ pub(crate) fn plan<C: Convention>(
     sources: &[Source],
     moves: &mut MoveList,
 ) -> Result<Plan, Refusal>
-    ensures { IfOk result (λ p. Accepted (answers convention.now) sources.now p moves.new) }
+    ensures { IfOk result (λ p. Accepted (C.answers convention.now) sources.now p moves.new) }
 {
     let mut list = ArgumentList::new();
     add_all(&mut list, sources)?;
@@ -106,7 +106,7 @@ pub(crate) fn exchange_steps<C: Convention>(
     convention: &C,
     routine: u32,
 ) -> anyhow::Result<Vec<Step>>
-    ensures { IfOk result (λ v. ExchangeCall (answers convention.now) routine v.items) }
+    ensures { IfOk result (λ v. ExchangeCall (C.answers convention.now) routine v.items) }
 {
     let sources = accepted(rt, exchange(convention))?;
     let mut moves = MoveList::new();

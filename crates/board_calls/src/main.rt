@@ -1,5 +1,6 @@
 // A routine is to be called with its first two arguments exchanged, as two wheel speeds are. The steps of that call on the
 // console are shown, and then the moves of two calls for each board.
+#![tactic(auto)]
 
 mod answers;
 mod boards;

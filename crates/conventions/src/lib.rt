@@ -1,4 +1,6 @@
 // Where a call's arguments go and where they come from.
+#![tactic(auto)]
+
 pub mod arguments;
 pub mod boards;
 pub mod calls;

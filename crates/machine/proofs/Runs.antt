@@ -1,5 +1,5 @@
 -- Runs joined end to end, and the turn that a run leaves. Assumes nothing.
-use Rattle.std.proofs.Common.{◌≡◌, ◌+◌, List, [], ◌∷◌, ◌++◌, sym, refl, ap, ◌∙◌, arith, length-append}
+use Rattle.std.proofs.Common.{◌≡◌, List, [], ◌∷◌, ◌++◌, sym, refl, ap, ◌∙◌, arith, length-append}
 use Rattle.machine.specs.Words.{Start}
 use Rattle.machine.specs.States.{State, blank}
 use Rattle.machine.specs.Turns.{turn_after}

@@ -23,7 +23,7 @@ pub trait Emitter {
 // Gives all of the steps, or refuses and gives none: as the first step out of range or out of turn
 // is refused, or for want of room for every one.
 pub fn give<E: Emitter>(emitter: &mut E, steps: &[Step]) -> Result<(), Refusal>
-    ensures { Gave meaning steps.now result emitter.old emitter.new }
+    ensures { Gave E.meaning steps.now result emitter.old emitter.new }
 {
     let _ = emitter.turn().after_all(steps)?;
     if emitter.room() < steps.len() {

@@ -1,4 +1,6 @@
 // The machine under a lowered call: its vocabulary, and what takes its steps.
+#![tactic(auto)]
+
 pub mod emitters;
 pub mod limits;
 pub mod places;

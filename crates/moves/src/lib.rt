@@ -1,4 +1,6 @@
 // The moves of a call, found in tables of at most 32 entries.
+#![tactic(auto)]
+
 mod choices;
 pub mod limits;
 pub mod lists;

@@ -69,7 +69,7 @@ pub fn plan_call<C: Convention>(
     list: &ArgumentList,
     moves: &mut MoveList,
 ) -> Result<Plan, Refusal>
-    ensures { Planned (answers convention.now) (listed list.now) result moves.old moves.new }
+    ensures { Planned (C.answers convention.now) (listed list.now) result moves.old moves.new }
 {
     let arguments = arguments(convention, list)?;
     let wants = Wants::of(arguments.entries());

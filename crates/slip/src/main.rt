@@ -1,5 +1,7 @@
 // A routine is to be called with two wheel speeds exchanged. The right list of steps and the old wrong
 // one go to a tape, are read back, and run on the trial wheel, on a slipping wheel and on origins.
+#![tactic(auto)]
+
 use machine::places::{Register, RegisterSet};
 use machine::steps::Step;
 

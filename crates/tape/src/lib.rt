@@ -1,4 +1,6 @@
 // The tape: steps as bytes in a lent buffer, and the reader of tapes from anywhere.
+#![tactic(auto)]
+
 mod commands;
 pub mod errors;
 pub mod limits;

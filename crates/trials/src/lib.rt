@@ -1,4 +1,6 @@
 // This crate holds tests alone.
+#![tactic(auto)]
+
 #[cfg(test)]
 mod benches;
 #[cfg(test)]

@@ -45,7 +45,7 @@ fn all_usable(usable: RegisterSet, sources: &[Source]) -> bool
 // Fills the first entries with the hidden arguments.
 fn fill_hidden<C: Convention>(convention: &C, hidden: u8, entries: &mut [Argument])
     requires { hidden ≤ length entries.old }
-    ensures { take hidden entries.new ≡ hidden_arguments (answers convention.now) hidden }
+    ensures { take hidden entries.new ≡ hidden_arguments (C.answers convention.now) hidden }
 {
     for i in 0..hidden {
         entries[i as usize] = Argument {
@@ -65,7 +65,7 @@ fn fill_given<C: Convention>(
     requires few { length sources.now ≤ argument_limit }
     requires fits { first + length sources.now ≤ length entries.old }
     ensures { take (first + length sources.now) entries.new
-        ≡ take first entries.old ++ given_arguments (answers convention.now) 0 sources.now }
+        ≡ take first entries.old ++ given_arguments (C.answers convention.now) 0 sources.now }
 {
     for (i, source) in sources.iter().enumerate() {
         entries[first as usize + i] = Argument {
@@ -77,7 +77,7 @@ fn fill_given<C: Convention>(
 
 // The arguments of a call with the listed sources given.
 pub fn arguments<C: Convention>(convention: &C, list: &ArgumentList) -> Result<Arguments, Refusal>
-    ensures { Called (answers convention.now) (listed list.now) result }
+    ensures { Called (C.answers convention.now) (listed list.now) result }
 {
     let hidden = convention.hidden();
     let sources = list.sources();

@@ -7,7 +7,7 @@ use Rattle.board_calls.proofs.calls.add_all.Goals as goal
 pub loop-source-preserved : goal.loop-source-preserved
 loop-source-preserved c =
     added_more c.args.sources.now (listed c.args.list.now) (listed c.loop-source.list) c.loop-source.source-index
-    (listed c.add.new.self) (Number 0) c.loop-source-test.true c.loop-source.invariant c.in-ok-add.ensures.did
+    (listed c.add.new.self) (Number 0) c.loop-source-test.true c.loop-source.invariant c.in_ok-add.ensures.did
 
 pub returns : goal.returns
 returns c =

@@ -7,10 +7,10 @@ use Rattle.board_calls.proofs.calls.exchange_steps.Goals as goal
 pub returns : goal.returns
 returns g c =
     record {
-      sources = c.in-ok-sources.sources;
-      plan = c.in-ok-plan.plan;
+      sources = c.in_ok-sources.sources;
+      plan = c.in_ok-plan.plan;
       moves = c.plan.new.moves;
-      exchanged = IfOk-at_ok _ c.in-ok-sources.ensures c.exchange.ensures;
-      accepted = IfOk-at_ok _ c.in-ok-plan.ensures c.plan.ensures;
-      are = c.in-ok-call-steps.ensures ∙ ap (call_steps c.in-ok-plan.plan.bytes (moves_in c.plan.new.moves) c.args.routine) c.lost.ensures;
+      exchanged = IfOk-at_ok _ c.in_ok-sources.ensures c.exchange.ensures;
+      accepted = IfOk-at_ok _ c.in_ok-plan.ensures c.plan.ensures;
+      are = c.in_ok-call_steps.ensures ∙ ap (call_steps c.in_ok-plan.plan.bytes (moves_in c.plan.new.moves) c.args.routine) c.lost.ensures;
     }

@@ -3,18 +3,18 @@ use Rattle.std.proofs.lemmas.Result.{err_from_is_err_and}
 use Rattle.machine.proofs.Giving.{giving_none, giving_goes, giving_more, gave_all, gave_no_room, gave_refused, not_refused}
 use Rattle.machine.proofs.emitters.give.Goals as goal
 
-pub returns-in-err-after-all : goal.returns-in-err-after-all
-returns-in-err-after-all g c =
-    let p = err_from_is_err_and c.from-residual.result c.from-residual.ensures.1 in
-    rw (p.1, p.2) (gave_refused g.E.Emitter.meaning c.args.steps.now _ _ c.turn.ensures _ c.in-err-after-all.ensures)
+pub returns-in_err-after_all : goal.returns-in_err-after_all
+returns-in_err-after_all g c =
+    let p = err_from_is_err_and c.from_residual.result c.from_residual.ensures.1 in
+    rw (p.1, p.2) (gave_refused g.E.Emitter.meaning c.args.steps.now _ _ c.turn.ensures _ c.in_err-after_all.ensures)
 
 pub returns-then-room-steps : goal.returns-then-room-steps
 returns-then-room-steps g c =
-    gave_no_room g.E.Emitter.meaning c.args.steps.now _ _ c.turn.ensures _ c.in-ok-after-all.ensures (omega arith)
+    gave_no_room g.E.Emitter.meaning c.args.steps.now _ _ c.turn.ensures _ c.in_ok-after_all.ensures (omega arith)
 
 pub loop-step-init : goal.loop-step-init
 loop-step-init g c =
-    (giving_none g.E.Emitter.meaning c.args.steps.now _ _ c.turn.ensures _ c.in-ok-after-all.ensures, omega arith)
+    (giving_none g.E.Emitter.meaning c.args.steps.now _ _ c.turn.ensures _ c.in_ok-after_all.ensures, omega arith)
 
 pub unreachable-requires : goal.unreachable-requires
 unreachable-requires g c =
@@ -28,4 +28,4 @@ loop-step-preserved g c =
 
 pub returns : goal.returns
 returns g c =
-    gave_all g.E.Emitter.meaning c.args.steps.now _ _ c.turn.ensures _ c.in-ok-after-all.ensures _ _ c.loop-step.invariant.0 c.loop-step-test.false (omega arith)
+    gave_all g.E.Emitter.meaning c.args.steps.now _ _ c.turn.ensures _ c.in_ok-after_all.ensures _ _ c.loop-step.invariant.0 c.loop-step-test.false (omega arith)

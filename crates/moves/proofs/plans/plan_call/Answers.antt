@@ -8,24 +8,24 @@ use Rattle.moves.proofs.Planning.{accepted, entries_placed, needed_few, order_fi
 use Rattle.moves.proofs.plans.plan_call.Goals as goal
 
 pub of-wants-requires : goal.of-wants-requires
-of-wants-requires g c = entries_placed _ _ _ c.in-ok-arguments.ensures c.entries.result.now c.entries.ensures
+of-wants-requires g c = entries_placed _ _ _ c.in_ok-arguments.ensures c.entries.result.now c.entries.ensures
 
-pub write-moves-rings-requires : goal.write-moves-rings-requires
-write-moves-rings-requires g c =
-    order_fits _ _ _ c.in-ok-arguments.ensures c.entries.result.now c.entries.ensures
+pub write_moves-rings-requires : goal.write_moves-rings-requires
+write_moves-rings-requires g c =
+    order_fits _ _ _ c.in_ok-arguments.ensures c.entries.result.now c.entries.ensures
     (wants_in c.of-wants.result) c.of-wants.ensures c.scratch.result.0 (ap (λ (r : Register). r.0) c.scratch.ensures)
 
 pub overflow-cast-result : goal.overflow-cast-result
 overflow-cast-result g c =
-    let few = needed_few _ _ _ c.in-ok-arguments.ensures c.entries-2.result.now c.entries-2.ensures in
-    omega (arith, c.count-needed.ensures, few)
+    let few = needed_few _ _ _ c.in_ok-arguments.ensures c.entries-2.result.now c.entries-2.ensures in
+    omega (arith, c.count_needed.ensures, few)
 
 pub returns : goal.returns
 returns g c =
     let a = g.C.Convention.answers c.args.convention.now in
     let same = ap needed (c.entries-2.ensures ∙ sym c.entries.ensures) in
-    accepted a (listed c.args.list.now) _ c.in-ok-arguments.ensures c.entries.result.now c.entries.ensures
+    accepted a (listed c.args.list.now) _ c.in_ok-arguments.ensures c.entries.result.now c.entries.ensures
     (wants_in c.of-wants.result) c.of-wants.ensures c.scratch.result.0 (ap (λ (r : Register). r.0) c.scratch.ensures) _ _
     (c.bytes_for.ensures ∙ ap bytes_for (c.slots.ensures ∙ ap a.slots c.len.ensures))
-    (c.count-needed.ensures ∙ same)
-    c.write-moves-rings.ensures.rings c.write-moves-rings.ensures.values c.write-moves-rings.ensures.moves
+    (c.count_needed.ensures ∙ same)
+    c.write_moves-rings.ensures.rings c.write_moves-rings.ensures.values c.write_moves-rings.ensures.moves

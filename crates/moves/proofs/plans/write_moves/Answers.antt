@@ -5,43 +5,43 @@ use Rattle.moves.specs.Wants.{wants_in}
 use Rattle.moves.proofs.Joining.{joined, whole_length}
 use Rattle.moves.proofs.plans.write_moves.Goals as goal
 
-pub store-registers-requires : goal.store-registers-requires
-store-registers-requires c =
+pub store_registers-requires : goal.store_registers-requires
+store_registers-requires c =
     let all = whole_length (stored_registers (wants_in c.args.wants.now)) (spread_values (wants_in c.args.wants.now) c.args.scratch.0) (settled (wants_in c.args.wants.now) c.args.scratch.0) (loaded_registers (wants_in c.args.wants.now)) (stored_values (wants_in c.args.wants.now)) in
     let zero' = ap length c.clear.ensures in
     omega (arith, c.requires)
 
-pub spread-values-values-requires : goal.spread-values-values-requires
-spread-values-values-requires c =
+pub spread_values-values-requires : goal.spread_values-values-requires
+spread_values-values-requires c =
     let all = whole_length (stored_registers (wants_in c.args.wants.now)) (spread_values (wants_in c.args.wants.now) c.args.scratch.0) (settled (wants_in c.args.wants.now) c.args.scratch.0) (loaded_registers (wants_in c.args.wants.now)) (stored_values (wants_in c.args.wants.now)) in
     let zero' = ap length c.clear.ensures in
-    let one = ap length c.store-registers.ensures ∙ length-append (moves_in c.clear.new.self) (stored_registers (wants_in c.args.wants.now)) in
+    let one = ap length c.store_registers.ensures ∙ length-append (moves_in c.clear.new.self) (stored_registers (wants_in c.args.wants.now)) in
     omega (arith, c.requires)
 
-pub fill-registers-rings-requires : goal.fill-registers-rings-requires
-fill-registers-rings-requires c =
+pub fill_registers-rings-requires : goal.fill_registers-rings-requires
+fill_registers-rings-requires c =
     let all = whole_length (stored_registers (wants_in c.args.wants.now)) (spread_values (wants_in c.args.wants.now) c.args.scratch.0) (settled (wants_in c.args.wants.now) c.args.scratch.0) (loaded_registers (wants_in c.args.wants.now)) (stored_values (wants_in c.args.wants.now)) in
     let zero' = ap length c.clear.ensures in
-    let one = ap length c.store-registers.ensures ∙ length-append (moves_in c.clear.new.self) (stored_registers (wants_in c.args.wants.now)) in
-    let two = ap length c.spread-values-values.ensures.moves ∙ length-append (moves_in c.store-registers.new.moves) (spread_values (wants_in c.args.wants.now) c.args.scratch.0) in
+    let one = ap length c.store_registers.ensures ∙ length-append (moves_in c.clear.new.self) (stored_registers (wants_in c.args.wants.now)) in
+    let two = ap length c.spread_values-values.ensures.moves ∙ length-append (moves_in c.store_registers.new.moves) (spread_values (wants_in c.args.wants.now) c.args.scratch.0) in
     omega (arith, c.requires)
 
-pub store-values-requires : goal.store-values-requires
-store-values-requires c =
+pub store_values-requires : goal.store_values-requires
+store_values-requires c =
     let all = whole_length (stored_registers (wants_in c.args.wants.now)) (spread_values (wants_in c.args.wants.now) c.args.scratch.0) (settled (wants_in c.args.wants.now) c.args.scratch.0) (loaded_registers (wants_in c.args.wants.now)) (stored_values (wants_in c.args.wants.now)) in
     let zero' = ap length c.clear.ensures in
-    let one = ap length c.store-registers.ensures ∙ length-append (moves_in c.clear.new.self) (stored_registers (wants_in c.args.wants.now)) in
-    let two = ap length c.spread-values-values.ensures.moves ∙ length-append (moves_in c.store-registers.new.moves) (spread_values (wants_in c.args.wants.now) c.args.scratch.0) in
-    let filled = moves_in c.spread-values-values.new.moves ++ settled (wants_in c.args.wants.now) c.args.scratch.0 in
-    let three = length-append (moves_in c.spread-values-values.new.moves) (settled (wants_in c.args.wants.now) c.args.scratch.0) in
-    let four = ap length c.fill-registers-rings.ensures.moves ∙ length-append filled (loaded_registers (wants_in c.args.wants.now)) in
+    let one = ap length c.store_registers.ensures ∙ length-append (moves_in c.clear.new.self) (stored_registers (wants_in c.args.wants.now)) in
+    let two = ap length c.spread_values-values.ensures.moves ∙ length-append (moves_in c.store_registers.new.moves) (spread_values (wants_in c.args.wants.now) c.args.scratch.0) in
+    let filled = moves_in c.spread_values-values.new.moves ++ settled (wants_in c.args.wants.now) c.args.scratch.0 in
+    let three = length-append (moves_in c.spread_values-values.new.moves) (settled (wants_in c.args.wants.now) c.args.scratch.0) in
+    let four = ap length c.fill_registers-rings.ensures.moves ∙ length-append filled (loaded_registers (wants_in c.args.wants.now)) in
     omega (arith, c.requires)
 
 pub returns : goal.returns
 returns c = record {
   moves =
       joined (stored_registers (wants_in c.args.wants.now)) (spread_values (wants_in c.args.wants.now) c.args.scratch.0) (settled (wants_in c.args.wants.now) c.args.scratch.0) (loaded_registers (wants_in c.args.wants.now)) (stored_values (wants_in c.args.wants.now))
-      _ _ _ _ _ _ c.clear.ensures c.store-registers.ensures c.spread-values-values.ensures.moves refl c.fill-registers-rings.ensures.moves c.store-values.ensures;
-  rings = c.fill-registers-rings.ensures.rings;
-  values = c.spread-values-values.ensures.values;
+      _ _ _ _ _ _ c.clear.ensures c.store_registers.ensures c.spread_values-values.ensures.moves refl c.fill_registers-rings.ensures.moves c.store_values.ensures;
+  rings = c.fill_registers-rings.ensures.rings;
+  values = c.spread_values-values.ensures.values;
 }

@@ -15,7 +15,7 @@ loop-i-init c = subst (Writes 0) (sym (drop_all (length c.args.bytes.now) c.args
 
 pub loop-i-preserved : goal.loop-i-preserved
 loop-i-preserved c =
-    writes_earlier c.args.bytes.now _ _ c.loop-i-test.true c.loop-i.auto.i c.loop-i.invariant (c.type-inv.bytes _).fits
+    writes_earlier c.args.bytes.now _ _ c.loop-i-test.true c.loop-i.auto.i c.loop-i.invariant (c.type_inv.bytes _).fits
 
 pub returns : goal.returns
 returns c =

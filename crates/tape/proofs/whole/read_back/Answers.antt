@@ -9,8 +9,8 @@ pub returns : goal.returns
 returns c =
     let tape = c.args.tape.now in
     record {
-      answer = subst (λ bs. Read bs c.read-tape.result) c.bytes.ensures c.read-tape.ensures.answer;
-      round = λ short bare. c.read-tape.ensures.round (tape_steps tape) (record {
+      answer = subst (λ bs. Read bs c.read_tape.result) c.bytes.ensures c.read_tape.ensures.answer;
+      round = λ short bare. c.read_tape.ensures.round (tape_steps tape) (record {
         bytes = c.bytes.ensures ∙ sym tape.whole;
         fit = tape.fit;
         bare = arrives_walked (tape_steps tape) tape.turn tape.walks ∙ ap (λ t. Ok t) bare;

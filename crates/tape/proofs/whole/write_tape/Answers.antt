@@ -12,8 +12,8 @@ use Rattle.tape.proofs.whole.write_tape.Goals as goal
 pub loop-step-init : goal.loop-step-init
 loop-step-init c =
     let opened = c.open-tape.ensures.0 in
-    let enough = leb-true _ _ (sym c.if-not-leaves-spare.ensures) in (
-      giving_none tape_meaning c.args.steps.now c.open-tape.result _ (sym opened.turn) _ c.in-ok-after-all.ensures,
+    let enough = leb-true _ _ (sym c.if-not-leaves_spare.ensures) in (
+      giving_none tape_meaning c.args.steps.now c.open-tape.result _ (sym opened.turn) _ c.in_ok-after_all.ensures,
       omega (arith, ap length opened.bytes),
     )
 
@@ -39,9 +39,9 @@ returns c =
     let used = filled_length c.args.buffer.now c.args.steps.now _ c.loop-step.tape opened ran in
     let long : length c.bytes.result.now ≡ length (flat_map encode c.args.steps.now) =
     ap length c.bytes.ensures ∙ length-take-le _ _ c.loop-step.tape.within ∙ used in
-    let enough = leb-true _ _ (sym c.if-not-leaves-spare.ensures) in
+    let enough = leb-true _ _ (sym c.if-not-leaves_spare.ensures) in
     record {
-      answer = ap (λ n. Ok n) long ∙ written_answer _ _ _ c.in-ok-after-all.ensures enough;
+      answer = ap (λ n. Ok n) long ∙ written_answer _ _ _ c.in_ok-after_all.ensures enough;
       bytes = let kept = ran.gains.lent in search (rules, bytes, lent, kept);
       reads = λ short bare. filled_reads _ _ _ c.loop-step.tape opened ran (omega (arith, long)) bare;
     }

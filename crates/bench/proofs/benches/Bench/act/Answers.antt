@@ -31,7 +31,7 @@ returns-in-Reserve g c =
 
 pub returns-in-Call : goal.returns-in-Call
 returns-in-Call g c =
-    let r = c.record-call.ensures in
+    let r = c.record_call.ensures in
     rw c.in-Call.is record {
       state = called_state g.W.WordKind.stands c.args.self.now _ _ _ r;
       turn = r.turn;

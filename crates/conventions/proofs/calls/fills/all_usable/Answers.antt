@@ -4,16 +4,16 @@ use Rattle.conventions.specs.Calls.{all_usable}
 use Rattle.conventions.proofs.Filling.{usable_fails, usable_more}
 use Rattle.conventions.proofs.calls.fills.all_usable.Goals as goal
 
-pub returns-then-not-source-usable : goal.returns-then-not-source-usable
-returns-then-not-source-usable c =
+pub returns-then-not-source_usable : goal.returns-then-not-source_usable
+returns-then-not-source_usable c =
     sym (usable_fails c.args.usable.0 c.args.sources.now c.loop-source.source-index
-    _ c.loop-source-test.true (sym c.if-not-source-usable.ensures))
+    _ c.loop-source-test.true (sym c.if-not-source_usable.ensures))
     ∙ c.loop-source.invariant
 
 pub loop-source-preserved : goal.loop-source-preserved
 loop-source-preserved c =
     sym (usable_more c.args.usable.0 c.args.sources.now c.loop-source.source-index
-    _ c.loop-source-test.true (sym c.if-not-source-usable.ensures))
+    _ c.loop-source-test.true (sym c.if-not-source_usable.ensures))
     ∙ c.loop-source.invariant
 
 pub returns : goal.returns

@@ -12,5 +12,5 @@ returns g c =
     let lawful = g.met.C.Convention.lawful c.args.convention.now in
     let count : length c.sources-sources.result.now ≡ length (listed l) = cc in
     let fits : a.hidden + length (listed l) ≤ argument_limit = omega arith in
-    let used : all_usable a.usable.0 (listed l) ≡ true = cc c.if-not-all-usable.ensures in
+    let used : all_usable a.usable.0 (listed l) ≡ true = cc c.if-not-all_usable.ensures in
     filled a l _ lawful fits used (cc)

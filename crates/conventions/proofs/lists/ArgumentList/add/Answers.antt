@@ -11,7 +11,7 @@ invariant-of-self c =
       omega arith,
       (
         simp length-set l.whole,
-        (set_ranged l.sources l.count s (omega arith) (verdict_in_range s c.in-ok-judge.ensures) l.ranged, tt),
+        (set_ranged l.sources l.count s (omega arith) (verdict_in_range s c.in_ok-judge.ensures) l.ranged, tt),
       ),
     )
 
@@ -19,6 +19,6 @@ pub returns : goal.returns
 returns c =
     let l = c.args.self.now in
     record {
-      answer = grind (arith, nat_tests, length-take l.count l.sources, c.in-ok-judge.ensures);
+      answer = grind (arith, nat_tests, length-take l.count l.sources, c.in_ok-judge.ensures);
       did = take_more_set l.sources l.count c.args.source (omega arith);
     }

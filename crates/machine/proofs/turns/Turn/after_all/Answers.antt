@@ -7,13 +7,13 @@ use Rattle.machine.proofs.turns.Turn.after_all.Goals as goal
 
 pub loop-step-preserved : goal.loop-step-preserved
 loop-step-preserved c =
-    let ok = c.in-ok-turn.ensures in
+    let ok = c.in_ok-turn.ensures in
     sym (walked_more c.args.steps.now _ _ _ _ c.loop-step-test.true (sym ok)) ∙ c.loop-step.invariant
 
-pub returns-in-err-turn : goal.returns-in-err-turn
-returns-in-err-turn c =
-    let p = err_from_is_err_and c.from-residual.result c.from-residual.ensures.1 in
-    let refused = c.in-err-turn.ensures in
+pub returns-in_err-turn : goal.returns-in_err-turn
+returns-in_err-turn c =
+    let p = err_from_is_err_and c.from_residual.result c.from_residual.ensures.1 in
+    let refused = c.in_err-turn.ensures in
     rw (p.1, p.2) (sym (walked_stop c.args.steps.now _ _ _ _ c.loop-step-test.true (sym refused)) ∙ c.loop-step.invariant)
 
 pub returns : goal.returns

@@ -4,7 +4,7 @@ use Rattle.moves.specs.Tables.{table_in}
 use Rattle.moves.specs.Wants.{wants_in}
 use Rattle.moves.proofs.Deciding.{not_free, not_unread, take_found}
 use Rattle.moves.proofs.pendings.PendingMoves.choose.Goals as goal
-use Rattle.moves.proofs.pendings.PendingMoves.choose.Goals.{else-is-pending-via-else-is-pending, else-is-pending-via-then-is-pending+else-not-read-d}
+use Rattle.moves.proofs.pendings.PendingMoves.choose.Goals.{else-is_pending-via-else-is_pending, else-is_pending-via-then-is_pending+else-not-read-d}
 
 pub loop-d-init : goal.loop-d-init
 unfolding first
@@ -12,15 +12,15 @@ loop-d-init c = refl
 
 pub returns-then-not-read-d : goal.returns-then-not-read-d
 returns-then-not-read-d c =
-    take_found (wants_in c.args.wants.now) (table_in c.args.self.now) c.loop-d.d c.loop-d-test.true c.loop-d.invariant (sym c.if-is-pending.ensures)
-    (sym (c.read-registers-read.ensures.marks_read c.loop-d.d c.loop-d-test.true) ∙ c.if-not-read-d.true)
+    take_found (wants_in c.args.wants.now) (table_in c.args.self.now) c.loop-d.d c.loop-d-test.true c.loop-d.invariant (sym c.if-is_pending.ensures)
+    (sym (c.read_registers-read.ensures.marks_read c.loop-d.d c.loop-d-test.true) ∙ c.if-not-read-d.true)
 
 pub loop-d-preserved : goal.loop-d-preserved
 loop-d-preserved c =
     let w = wants_in c.args.wants.now in
     let t = table_in c.args.self.now in
-    elim c.else-is-pending.branch [
-      | else-is-pending-via-then-is-pending+else-not-read-d way ↦
-          not_unread w t c.loop-d.d c.loop-d.invariant (sym (c.read-registers-read.ensures.marks_read c.loop-d.d c.loop-d-test.true) ∙ way.if-not-read-d.false)
-      | else-is-pending-via-else-is-pending way ↦ not_free w t c.loop-d.d c.loop-d.invariant (sym way.if-is-pending.ensures)
+    elim c.else-is_pending.branch [
+      | else-is_pending-via-then-is_pending+else-not-read-d way ↦
+          not_unread w t c.loop-d.d c.loop-d.invariant (sym (c.read_registers-read.ensures.marks_read c.loop-d.d c.loop-d-test.true) ∙ way.if-not-read-d.false)
+      | else-is_pending-via-else-is_pending way ↦ not_free w t c.loop-d.d c.loop-d.invariant (sym way.if-is_pending.ensures)
     ]

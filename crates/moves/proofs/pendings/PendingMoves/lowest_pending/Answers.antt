@@ -10,8 +10,8 @@ pub loop-d-init : goal.loop-d-init
 unfolding first
 loop-d-init c = refl
 
-pub returns-then-is-pending : goal.returns-then-is-pending
-returns-then-is-pending c = sym (first_hit (pending (table_in c.args.self.now)) registers _ c.loop-d-test.true c.loop-d.invariant (sym c.if-is-pending.ensures))
+pub returns-then-is_pending : goal.returns-then-is_pending
+returns-then-is_pending c = sym (first_hit (pending (table_in c.args.self.now)) registers _ c.loop-d-test.true c.loop-d.invariant (sym c.if-is_pending.ensures))
 
 pub loop-d-preserved : goal.loop-d-preserved
-loop-d-preserved c = first_more (pending (table_in c.args.self.now)) _ c.loop-d.invariant (sym c.if-is-pending.ensures)
+loop-d-preserved c = first_more (pending (table_in c.args.self.now)) _ c.loop-d.invariant (sym c.if-is_pending.ensures)

@@ -8,8 +8,8 @@ use Rattle.moves.specs.Wants.{wants_in}
 use Rattle.moves.proofs.Carrying.{Carrying, carrying_all, carrying_finished, carrying_more, carrying_room}
 use Rattle.moves.proofs.pendings.PendingMoves.settle.Goals as goal
 
-pub carry-out-requires : goal.carry-out-requires
-carry-out-requires c =
+pub carry_out-requires : goal.carry_out-requires
+carry_out-requires c =
     carrying_room (wants_in c.args.wants.now) c.args.scratch.0 choices (table_in c.args.self.now) (moves_in c.args.moves.now)
     c.loop.counter move_limit (table_in c.loop.self) (moves_in c.loop.moves) c.loop.rings _ c.loop-test.true c.choose-choice.ensures c.loop.invariant c.requires
 
@@ -18,7 +18,7 @@ loop-preserved c =
     let next = carrying_more (wants_in c.args.wants.now) c.args.scratch.0 choices (table_in c.args.self.now) (moves_in c.args.moves.now)
     c.loop.counter (table_in c.loop.self) (moves_in c.loop.moves) c.loop.rings _ c.loop-test.true c.choose-choice.ensures c.loop.invariant in
     subst₃ (λ u ps r. Carrying (wants_in c.args.wants.now) c.args.scratch.0 choices (table_in c.args.self.now) (moves_in c.args.moves.now) (c.loop.counter + 1) u ps (c.loop.rings + r))
-    (sym c.carry-out.ensures.table) (sym c.carry-out.ensures.moves) (sym c.rings-spilled-rings.ensures) next
+    (sym c.carry_out.ensures.table) (sym c.carry_out.ensures.moves) (sym c.rings_spilled-rings.ensures) next
 
 pub returns-after-loop : goal.returns-after-loop
 returns-after-loop c =

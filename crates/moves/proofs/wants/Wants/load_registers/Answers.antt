@@ -10,12 +10,12 @@ use Rattle.moves.proofs.wants.Wants.load_registers.Goals as goal
 pub loop-r-init : goal.loop-r-init
 loop-r-init c = adding_none (λ r. load r ((wants_in c.args.self.now).register r)) (moves_in c.args.moves.now)
 
-pub push-some-requires : goal.push-some-requires
-push-some-requires c =
+pub push_some-requires : goal.push_some-requires
+push_some-requires c =
     adding_room (λ r. load r ((wants_in c.args.self.now).register r)) (moves_in c.args.moves.now) registers c.loop-r.r move_limit (moves_in c.loop-r.moves) (optional c.load.result)
     c.loop-r-test.true c.loop-r.invariant (c.load.ensures ∙ ap (load c.loop-r.r) c.register.ensures) c.requires
 
 pub loop-r-preserved : goal.loop-r-preserved
 loop-r-preserved c =
-    adding_more (λ r. load r ((wants_in c.args.self.now).register r)) (moves_in c.args.moves.now) c.loop-r.r (moves_in c.loop-r.moves) (optional c.load.result) (moves_in c.push-some.new.self)
-    c.loop-r.invariant (c.load.ensures ∙ ap (load c.loop-r.r) c.register.ensures) c.push-some.ensures
+    adding_more (λ r. load r ((wants_in c.args.self.now).register r)) (moves_in c.args.moves.now) c.loop-r.r (moves_in c.loop-r.moves) (optional c.load.result) (moves_in c.push_some.new.self)
+    c.loop-r.invariant (c.load.ensures ∙ ap (load c.loop-r.r) c.register.ensures) c.push_some.ensures

@@ -10,8 +10,8 @@ pub loop-r-init : goal.loop-r-init
 unfolding first
 loop-r-init c = refl
 
-pub returns-then-is-source : goal.returns-then-is-source
-returns-then-is-source c = sym (first_hit (λ r. is_source ((wants_in c.args.self.now).register r) c.args.source) registers _ c.loop-r-test.true c.loop-r.invariant (sym c.if-is-source.ensures))
+pub returns-then-is_source : goal.returns-then-is_source
+returns-then-is_source c = sym (first_hit (λ r. is_source ((wants_in c.args.self.now).register r) c.args.source) registers _ c.loop-r-test.true c.loop-r.invariant (sym c.if-is_source.ensures))
 
 pub loop-r-preserved : goal.loop-r-preserved
-loop-r-preserved c = first_more (λ r. is_source ((wants_in c.args.self.now).register r) c.args.source) _ c.loop-r.invariant (sym c.if-is-source.ensures)
+loop-r-preserved c = first_more (λ r. is_source ((wants_in c.args.self.now).register r) c.args.source) _ c.loop-r.invariant (sym c.if-is_source.ensures)

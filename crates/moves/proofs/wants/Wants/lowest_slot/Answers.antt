@@ -10,8 +10,8 @@ pub loop-o-init : goal.loop-o-init
 unfolding first
 loop-o-init c = refl
 
-pub returns-then-is-source : goal.returns-then-is-source
-returns-then-is-source c = sym (first_hit (λ o. is_source ((wants_in c.args.self.now).outgoing o) c.args.source) outgoing_slots _ c.loop-o-test.true c.loop-o.invariant (sym c.if-is-source.ensures))
+pub returns-then-is_source : goal.returns-then-is_source
+returns-then-is_source c = sym (first_hit (λ o. is_source ((wants_in c.args.self.now).outgoing o) c.args.source) outgoing_slots _ c.loop-o-test.true c.loop-o.invariant (sym c.if-is_source.ensures))
 
 pub loop-o-preserved : goal.loop-o-preserved
-loop-o-preserved c = first_more (λ o. is_source ((wants_in c.args.self.now).outgoing o) c.args.source) _ c.loop-o.invariant (sym c.if-is-source.ensures)
+loop-o-preserved c = first_more (λ o. is_source ((wants_in c.args.self.now).outgoing o) c.args.source) _ c.loop-o.invariant (sym c.if-is_source.ensures)

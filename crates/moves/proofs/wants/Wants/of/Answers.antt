@@ -7,8 +7,8 @@ use Rattle.moves.proofs.wants.Wants.of.Goals as goal
 pub loop-i-init : goal.loop-i-init
 loop-i-init c = filling_none c.args.arguments.now
 
-pub bounds-by-register-register : goal.bounds-by-register-register
-bounds-by-register-register c =
+pub bounds-by_register-register : goal.bounds-by_register-register
+bounds-by_register-register c =
     ltb-true _ registers (place_there c.args.arguments.now c.loop-i.i _ c.requires c.loop-i-test.true c.loop-i.auto.i (Register c.in-Register.register) c.in-Register.is)
 
 pub loop-i-preserved-in-Register : goal.loop-i-preserved-in-Register
@@ -16,8 +16,8 @@ loop-i-preserved-in-Register c =
     filling_register c.args.arguments.now c.loop-i.i _ c.loop-i-test.true c.loop-i.auto.i _ _ c.loop-i.invariant c.in-Register.register c.in-Register.is
     (ltb-true _ registers (place_there c.args.arguments.now c.loop-i.i _ c.requires c.loop-i-test.true c.loop-i.auto.i (Register c.in-Register.register) c.in-Register.is))
 
-pub bounds-by-slot-slot : goal.bounds-by-slot-slot
-bounds-by-slot-slot c =
+pub bounds-by_slot-slot : goal.bounds-by_slot-slot
+bounds-by_slot-slot c =
     ltb-true _ outgoing_slots (place_there c.args.arguments.now c.loop-i.i _ c.requires c.loop-i-test.true c.loop-i.auto.i (Outgoing c.in-Outgoing.slot) c.in-Outgoing.is)
 
 pub loop-i-preserved : goal.loop-i-preserved

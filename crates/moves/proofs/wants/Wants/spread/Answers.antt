@@ -6,8 +6,8 @@ use Rattle.moves.specs.Lists.{moves_in}
 use Rattle.moves.specs.Wants.{wants_in}
 use Rattle.moves.proofs.wants.Wants.spread.Goals as goal
 
-pub store-all-requires : goal.store-all-requires
-store-all-requires c =
+pub store_all-requires : goal.store_all-requires
+store_all-requires c =
     let one = ap length c.push.ensures in
     let split = length-append (moves_in c.args.moves.now) (c.bring.result ∷ []) in
     omega (arith, c.requires)
@@ -15,5 +15,5 @@ store-all-requires c =
 pub returns : goal.returns
 returns c =
     let stores = each (store_scratch (wants_in c.args.self.now) c.args.scratch.0 c.args.source) outgoing_slots in
-    c.store-all.ensures ∙ ap (λ ps. ps ++ stores) c.push.ensures ∙ append_assoc (moves_in c.args.moves.now) (c.bring.result ∷ []) stores
+    c.store_all.ensures ∙ ap (λ ps. ps ++ stores) c.push.ensures ∙ append_assoc (moves_in c.args.moves.now) (c.bring.result ∷ []) stores
     ∙ ap (λ p. moves_in c.args.moves.now ++ (p ∷ stores)) c.bring.ensures

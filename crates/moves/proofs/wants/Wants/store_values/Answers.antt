@@ -9,12 +9,12 @@ use Rattle.moves.proofs.wants.Wants.store_values.Goals as goal
 pub loop-o-init : goal.loop-o-init
 loop-o-init c = adding_none (λ o. store_loaded (wants_in c.args.self.now) o ((wants_in c.args.self.now).outgoing o)) (moves_in c.args.moves.now)
 
-pub push-some-requires : goal.push-some-requires
-push-some-requires c =
+pub push_some-requires : goal.push_some-requires
+push_some-requires c =
     adding_room (λ o. store_loaded (wants_in c.args.self.now) o ((wants_in c.args.self.now).outgoing o)) (moves_in c.args.moves.now) outgoing_slots c.loop-o.o move_limit (moves_in c.loop-o.moves) (optional c.store_loaded.result)
     c.loop-o-test.true c.loop-o.invariant c.store_loaded.ensures c.requires
 
 pub loop-o-preserved : goal.loop-o-preserved
 loop-o-preserved c =
-    adding_more (λ o. store_loaded (wants_in c.args.self.now) o ((wants_in c.args.self.now).outgoing o)) (moves_in c.args.moves.now) c.loop-o.o (moves_in c.loop-o.moves) (optional c.store_loaded.result) (moves_in c.push-some.new.self)
-    c.loop-o.invariant c.store_loaded.ensures c.push-some.ensures
+    adding_more (λ o. store_loaded (wants_in c.args.self.now) o ((wants_in c.args.self.now).outgoing o)) (moves_in c.args.moves.now) c.loop-o.o (moves_in c.loop-o.moves) (optional c.store_loaded.result) (moves_in c.push_some.new.self)
+    c.loop-o.invariant c.store_loaded.ensures c.push_some.ensures

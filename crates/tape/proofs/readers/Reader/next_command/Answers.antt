@@ -23,18 +23,18 @@ returns-in-Err c =
     subst (λ r. Asked self r self) (sym c.refused-in-Err.ensures)
     (asked_none self c.if-tape-gt-TAPE-LIMIT.false c.if-place-tape.false _ c.in-Err.ensures)
 
-pub returns-then-not-in-range : goal.returns-then-not-in-range
-returns-then-not-in-range c =
+pub returns-then-not-in_range : goal.returns-then-not-in_range
+returns-then-not-in_range c =
     let self = c.args.self.now in
     let m : moved c.in-Ok.step self.turn ≡ Err OutOfRange = search rules in
-    subst (λ r. Asked self r self) (sym c.refused-then-not-in-range.ensures)
+    subst (λ r. Asked self r self) (sym c.refused-then-not-in_range.ensures)
     (asked_refused self c.if-tape-gt-TAPE-LIMIT.false c.if-place-tape.false _ c.in-Ok.ensures OutOfRange m)
 
-pub returns-in-default-Reserve : goal.returns-in-default-Reserve
-returns-in-default-Reserve c =
+pub returns-in_default-Reserve : goal.returns-in_default-Reserve
+returns-in_default-Reserve c =
     let self = c.args.self.now in
     let m : moved c.in-Ok.step self.turn ≡ Err OutOfTurn = search rules in
-    subst (λ r. Asked self r self) (sym c.refused-in-default-Reserve.ensures)
+    subst (λ r. Asked self r self) (sym c.refused-in_default-Reserve.ensures)
     (asked_refused self c.if-tape-gt-TAPE-LIMIT.false c.if-place-tape.false _ c.in-Ok.ensures OutOfTurn m)
 
 pub invariant-of-self : goal.invariant-of-self

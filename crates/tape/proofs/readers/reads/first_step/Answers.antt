@@ -4,8 +4,8 @@ use Rattle.tape.specs.Readers.{Commanded}
 use Rattle.tape.proofs.Parsing.{parsed, parsed_none, parsed_short}
 use Rattle.tape.proofs.readers.reads.first_step.Goals as goal
 
-pub returns-in-default : goal.returns-in-default
-returns-in-default c = parsed_none c.args.bytes.now c.requires (sym c.at.ensures ∙ c.in-default.is)
+pub returns-in_default : goal.returns-in_default
+returns-in_default c = parsed_none c.args.bytes.now c.requires (sym c.at.ensures ∙ c.in_default.is)
 
 pub returns-then-bytes-end : goal.returns-then-bytes-end
 returns-then-bytes-end c =
@@ -15,7 +15,7 @@ pub returns : goal.returns
 returns c =
     let xs = c.args.bytes.now in
     let o = c.in-Some.opcode in
-    let w = c.first-width-middle.result in
+    let w = c.first_width-middle.result in
     let x = c.second_width.result in
     let first = c.number-first.ensures in
     let second = c.number-second.ensures in
