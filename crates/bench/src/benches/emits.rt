@@ -19,7 +19,7 @@ impl<'a, W: WordKind> Bench<'a, W> {
     fn act(&mut self, step: Step)
         requires in_range { in_range step self.old.turn ≡ true }
         requires counted { self.old.calls < self.old.taken }
-        ensures { Acted stands step self.old self.new }
+        ensures { Acted W.stands step self.old self.new }
     {
         match step {
             Step::Copy { to, from } => self.cells[to.0 as usize] = self.cells[from.0 as usize],
@@ -47,7 +47,7 @@ impl<'a, W: WordKind> Bench<'a, W> {
         requires in_range { in_range step self.old.turn ≡ true }
         requires next { next ≡ turn_after step self.old.turn }
         requires room { self.old.taken < bench_steps }
-        ensures { Ran (bench_meaning stands) (step ∷ []) self.old self.new }
+        ensures { Ran (bench_meaning W.stands) (step ∷ []) self.old self.new }
     {
         self.taken += 1;
         self.act(step);

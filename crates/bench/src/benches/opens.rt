@@ -29,7 +29,7 @@ impl<'a, W: WordKind> Bench<'a, W> {
     // the other cells unknown.
     pub fn make(cells: &'a mut [W]) -> Bench<'a, W>
         requires { length cells.old ≡ cell_count }
-        ensures { (Opened stands cells.old result) × (result.cells.ghost_name ≡ cells.entry.ghost_name) }
+        ensures { (Opened W.stands cells.old result) × (result.cells.ghost_name ≡ cells.entry.ghost_name) }
     {
         let mut bench = Bench {
             cells,

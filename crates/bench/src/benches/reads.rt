@@ -13,21 +13,21 @@ use machine::places::{OutgoingSlot, Register};
 impl<'a, W: WordKind> Bench<'a, W> {
     // How many call steps were taken.
     pub fn calls(&self) -> u32
-        ensures { (s : Start) → result ≡ ((bench_meaning stands).state self.now s).calls }
+        ensures { (s : Start) → result ≡ ((bench_meaning W.stands).state self.now s).calls }
     {
         self.calls
     }
 
     // The routine of the latest call step, or 0.
     pub fn seen_routine(&self) -> u32
-        ensures { (s : Start) → result ≡ ((bench_meaning stands).state self.now s).seen.routine }
+        ensures { (s : Start) → result ≡ ((bench_meaning W.stands).state self.now s).seen.routine }
     {
         self.routine
     }
 
     // What the latest call step found in a register; none where there is no such register.
     pub fn seen_register(&self, register: Register) -> Option<W>
-        ensures { Told stands registers (λ s. ((bench_meaning stands).state self.now s).seen.register) register.0 result }
+        ensures { Told W.stands registers (λ s. ((bench_meaning W.stands).state self.now s).seen.register) register.0 result }
     {
         if register.0 >= REGISTERS {
             return None;
@@ -38,7 +38,7 @@ impl<'a, W: WordKind> Bench<'a, W> {
 
     // What the latest call step found in an outgoing slot; none where there is no such slot.
     pub fn seen_outgoing(&self, slot: OutgoingSlot) -> Option<W>
-        ensures { Told stands outgoing_slots (λ s. ((bench_meaning stands).state self.now s).seen.outgoing) slot.0 result }
+        ensures { Told W.stands outgoing_slots (λ s. ((bench_meaning W.stands).state self.now s).seen.outgoing) slot.0 result }
     {
         if slot.0 >= OUTGOING_SLOTS {
             return None;

@@ -15,8 +15,8 @@ write_moves-rings-requires g c =
     order_fits _ _ _ c.in_ok-arguments.ensures c.entries.result.now c.entries.ensures
     (wants_in c.of-wants.result) c.of-wants.ensures c.scratch.result.0 (ap (λ (r : Register). r.0) c.scratch.ensures)
 
-pub overflow-cast-result : goal.overflow-cast-result
-overflow-cast-result g c =
+pub overflow_cast-result : goal.overflow_cast-result
+overflow_cast-result g c =
     let few = needed_few _ _ _ c.in_ok-arguments.ensures c.entries-2.result.now c.entries-2.ensures in
     omega (arith, c.count_needed.ensures, few)
 

@@ -3,11 +3,11 @@ use Rattle.std.proofs.lemmas.List.{drop_all}
 use Rattle.tape.proofs.Numbers.{Writes, room_for_more, writes_earlier, writes_none}
 use Rattle.tape.proofs.commands.number.Goals as goal
 
-pub overflow-mul-number : goal.overflow-mul-number
-overflow-mul-number c = omega (arith, room_for_more c.args.bytes.now _ _ c.loop-i-test.true c.loop-i.auto.i c.loop-i.invariant c.requires)
+pub overflow_mul-number : goal.overflow_mul-number
+overflow_mul-number c = omega (arith, room_for_more c.args.bytes.now _ _ c.loop-i-test.true c.loop-i.auto.i c.loop-i.invariant c.requires)
 
-pub overflow-add-number : goal.overflow-add-number
-overflow-add-number c =
+pub overflow_add-number : goal.overflow_add-number
+overflow_add-number c =
     omega (arith, room_for_more c.args.bytes.now _ _ c.loop-i-test.true c.loop-i.auto.i c.loop-i.invariant c.requires)
 
 pub loop-i-init : goal.loop-i-init

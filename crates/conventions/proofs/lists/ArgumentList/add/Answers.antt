@@ -4,16 +4,15 @@ use Rattle.std.proofs.lemmas.Bool.Decides.{nat_tests}
 use Rattle.conventions.proofs.Listing.{set_ranged, verdict_in_range}
 use Rattle.conventions.proofs.lists.ArgumentList.add.Goals as goal
 
-pub invariant-of-self : goal.invariant-of-self
-invariant-of-self c =
+pub invariant_of-self : goal.invariant_of-self
+invariant_of-self c =
     let l = c.args.self.now in
-    let s = c.args.source in (
-      omega arith,
-      (
-        simp length-set l.whole,
-        (set_ranged l.sources l.count s (omega arith) (verdict_in_range s c.in_ok-judge.ensures) l.ranged, tt),
-      ),
-    )
+    let s = c.args.source in
+    record {
+      few = omega arith;
+      whole = simp length-set l.whole;
+      ranged = set_ranged l.sources l.count s (omega arith) (verdict_in_range s c.in_ok-judge.ensures) l.ranged;
+    }
 
 pub returns : goal.returns
 returns c =

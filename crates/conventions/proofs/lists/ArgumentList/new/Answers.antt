@@ -3,5 +3,5 @@ use Rattle.conventions.specs.Conventions.{argument_limit}
 use Rattle.conventions.proofs.Listing.{zeros_ranged}
 use Rattle.conventions.proofs.lists.ArgumentList.new.Goals as goal
 
-pub invariant-of-result : goal.invariant-of-result
-invariant-of-result c = (search rules, (search rules, (zeros_ranged argument_limit, tt)))
+pub invariant_of-result : goal.invariant_of-result
+invariant_of-result c = record { few = search rules; whole = search rules; ranged = zeros_ranged argument_limit }

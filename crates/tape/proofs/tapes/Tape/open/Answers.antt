@@ -2,9 +2,9 @@ use Rattle.std.proofs.Common.{refl, arith}
 use Rattle.tape.specs.Readings.{read}
 use Rattle.tape.proofs.tapes.Tape.open.Goals as goal
 
-pub invariant-of-result : goal.invariant-of-result
+pub invariant_of-result : goal.invariant_of-result
 unfolding read
-invariant-of-result c = (omega arith, (refl, (refl, (refl, tt))))
+invariant_of-result c = record { within = omega arith; whole = refl; fit = refl; walks = refl }
 
 pub returns : goal.returns
 unfolding read

@@ -7,11 +7,12 @@ use Rattle.tape.proofs.tapes.Tape.write.Goals as goal
 pub loop-i-init : goal.loop-i-init
 loop-i-init c = writing_none c.args.self.now (bytes_of c.of-command.result)
 
-pub invariant-of-self : goal.invariant-of-self
-invariant-of-self c =
+pub invariant_of-self : goal.invariant_of-self
+invariant_of-self c =
     let self = c.loop-i.self in
     let within : self.used ≤ length (set self.buffer.now (self.used + c.loop-i.i) c.byte.result) = simp length-set (omega (arith, self.within)) in
-    (within, sound_past self.used c.loop-i.i c.byte.result self.buffer.now self.turn (self.whole, (self.fit, (self.walks, tt))))
+    let sound = sound_past self.used c.loop-i.i c.byte.result self.buffer.now self.turn (self.whole, (self.fit, (self.walks, tt))) in
+    record { within = within; whole = sound.0; fit = sound.1.0; walks = sound.1.1.0 }
 
 pub loop-i-preserved : goal.loop-i-preserved
 loop-i-preserved c =
@@ -22,13 +23,17 @@ loop-i-preserved c =
     writing_more c.args.self.now (bytes_of command) c.loop-i.i self _ c.loop-i.invariant (omega arith) (omega arith) refl refl refl
     (ap (set self.buffer.now (self.used + c.loop-i.i)) c.byte.ensures)
 
-pub invariant-of-self-2 : goal.invariant-of-self-2
-invariant-of-self-2 c =
+pub invariant_of-self-2 : goal.invariant_of-self-2
+invariant_of-self-2 c =
     let command = c.of-command.ensures in
-    let all : c.loop-i.i ≡ c.size.result = omega arith in (
-      done_within _ c.args.step c.args.next _ _ _ _ c.loop-i.invariant command.is all c.size.ensures command.fit c.requires.goes c.requires.room,
-      done_sound _ c.args.step c.args.next _ _ _ _ c.loop-i.invariant command.is all c.size.ensures command.fit c.requires.goes c.requires.room,
-    )
+    let all : c.loop-i.i ≡ c.size.result = omega arith in
+    let sound = done_sound _ c.args.step c.args.next _ _ _ _ c.loop-i.invariant command.is all c.size.ensures command.fit c.requires.goes c.requires.room in
+    record {
+      within = done_within _ c.args.step c.args.next _ _ _ _ c.loop-i.invariant command.is all c.size.ensures command.fit c.requires.goes c.requires.room;
+      whole = sound.0;
+      fit = sound.1.0;
+      walks = sound.1.1.0;
+    }
 
 pub returns : goal.returns
 returns c =
