@@ -40,7 +40,7 @@ returns-in_default-Reserve c =
 pub invariant_of-self : goal.invariant_of-self
 invariant_of-self c =
     let size_is = c.size.ensures ∙ ap size c.of.ensures.is ∙ sym (length-encode c.in-Ok.step) in
-    within_part c.args.self.now c.if-tape-gt-TAPE_LIMIT.false c.if-place-tape.false _ c.in-Ok.ensures _ size_is
+    record { within = within_part c.args.self.now c.if-tape-gt-TAPE_LIMIT.false c.if-place-tape.false _ c.in-Ok.ensures _ size_is }
 
 pub returns : goal.returns
 returns c =
