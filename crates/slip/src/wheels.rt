@@ -44,7 +44,7 @@ pub struct Seen<W> {
 
 // Runs the steps on a bench over the cells, and tells what the latest call found.
 fn see<W: WordKind>(cells: &mut [W], steps: &[Step]) -> Result<Seen<W>, Refusal>
-    ensures { Saw stands steps.now cells.old result }
+    ensures { Saw W.stands steps.now cells.old result }
 {
     Bench::check(cells)?;
     let mut bench = Bench::make(cells);
