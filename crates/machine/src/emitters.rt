@@ -32,7 +32,7 @@ pub fn give<E: Emitter>(emitter: &mut E, steps: &[Step]) -> Result<(), Refusal>
     for step in steps {
         match emitter.take(*step) {
             Ok(()) => {}
-            Err(_) => unreachable(),
+            Err(_) => unreachable!(),
         }
     }
     Ok(())

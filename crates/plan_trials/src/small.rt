@@ -60,17 +60,18 @@ impl Convention for Small {
 // The call has so many moves, which are N + C + M.
 fn least(rt: &impl Abort, sources: &[Source], count: usize) -> Result<(), Fail> {
     let (plan, moves) = planned(rt, &Small, &listing(sources)?)?;
-    assert_eq!(rt; moves.steps().len(), count);
+    assert_eq!(rt; moves.steps().len(), count, "{sources:?}");
     assert_eq!(rt;
         plan.needed as usize + plan.rings as usize + plan.values as usize,
-        count
+        count,
+        "{sources:?}"
     );
     Ok(())
 }
 
 fn each_least(rt: &impl Abort, table: &[(&[Source], usize)]) -> Result<(), Fail> {
     for (sources, count) in table {
-        least(rt, sources, *count).note(format_args!("{sources:?}"))?;
+        least(rt, sources, *count)?;
     }
     Ok(())
 }

@@ -78,7 +78,7 @@ pub fn write_tape(steps: &[Step], buffer: &mut [u8]) -> Result<usize, Refusal>
     for step in steps {
         match tape.take(*step) {
             Ok(()) => {}
-            Err(_) => unreachable(),
+            Err(_) => unreachable!(),
         }
     }
     Ok(tape.bytes().len())
@@ -99,7 +99,7 @@ pub fn rewrite_tape(tape: &[u8], buffer: &mut [u8]) -> Result<usize, RewriteErro
     while let Some(part) = reader.next_command()? {
         match copy.take(part.step) {
             Ok(()) => {}
-            Err(_) => unreachable(),
+            Err(_) => unreachable!(),
         }
     }
     Ok(tape.len())

@@ -29,18 +29,19 @@ fn refused(
     let Err(fault) = check_tape(tape) else {
         return Err(Fail::new("the tape is accepted"));
     };
-    assert_eq!(rt; fault.refusal.number(), number);
-    assert_eq!(rt; fault.place, place);
+    assert_eq!(rt; fault.refusal.number(), number, "tape {tape:?}");
+    assert_eq!(rt; fault.place, place, "tape {tape:?}");
     assert_eq!(rt;
         read_tape(heap, tape).err(),
-        Some(ReadError::Refused(fault))
+        Some(ReadError::Refused(fault)),
+        "tape {tape:?}"
     );
     let mut reader = Reader::open(tape);
     for _ in 0..tape.len() {
         let _ = reader.next_command();
     }
-    assert_eq!(rt; reader.next_command().err(), Some(fault));
-    assert_eq!(rt; reader.next_command().err(), Some(fault));
+    assert_eq!(rt; reader.next_command().err(), Some(fault), "tape {tape:?}");
+    assert_eq!(rt; reader.next_command().err(), Some(fault), "tape {tape:?}");
     Ok(())
 }
 
@@ -59,7 +60,7 @@ fn each_refused(
 ) -> Result<(), Fail> {
     for (begun, rest) in tapes {
         let tape = joined(heap, begun, rest)?;
-        refused(rt, heap, &tape, number, begun.len()).note(format_args!("tape {tape:?}"))?;
+        refused(rt, heap, &tape, number, begun.len())?;
     }
     Ok(())
 }
