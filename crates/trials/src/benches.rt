@@ -13,6 +13,7 @@ use machine::turns::Turn;
 use machine::words::Word;
 use std::fmt::Debug;
 use std::process::Abort;
+use std::test::Fail;
 
 #[test]
 fn cell_counts(rt: HostRuntime) {

@@ -8,6 +8,7 @@ use machine::refusals::Refusal;
 use machine::steps::Step;
 use std::fmt::Debug;
 use std::process::Abort;
+use std::test::Fail;
 use tape::tapes::Tape;
 
 // Each list is refused for its reason, and leaves the turn and the room as they were.
