@@ -14,7 +14,7 @@ use Rattle.order.specs.Wants.{is_source, lowest_register, wants}
 use Rattle.order.proofs.Indices.{all_each, cases_option, some_same, first_found, first_none, first_some}
 use Rattle.conventions.proofs.Places.{source_refl, source_same}
 use Rattle.order.proofs.Wanting.{is_source_some, some_is_source}
-use Rattle.order.proofs.SpreadOnce.{Spreading, spreading, spreading_is, unplaced}
+use Rattle.order.proofs.SpreadOnce.{Spreading, spreading, spreading_is}
 
 has_append : (vs ws : List Source) (v : Source) → has_source (vs ++ ws) v ≡ (has_source vs v || has_source ws v)
 has_append [] ws v = refl
