@@ -4,7 +4,7 @@ use Rattle.std.proofs.ByRecursion.{All-append, All-from_get_or, All-push, All-we
 use Rattle.std.proofs.lemmas.List.{get_or_append_left, get_or-append_right, get_or_at, length_push}
 use Rattle.std.proofs.lemmas.Bool.{and_from, and_parts, both_ways, cases_Bool, cases_lt, eqb-true, lt-ltb, not_from_false}
 use Rattle.std.proofs.lemmas.Bool.Decides.{nat_tests}
-use Rattle.std.specs.List.{AllByRecursion as All}
+use Rattle.std.specs.List.{AllByRecursion}
 use Rattle.machine.specs.Limits.{registers}
 use Rattle.machine.specs.Places.{holds}
 use Rattle.conventions.specs.Arguments.{Arranged, Separate, apart_from, from_register, in_register, place_in_range, same_place, same_source, source_at, source_in_range}
@@ -120,22 +120,22 @@ module _ (a : Answers) where
   Sourced x = source_lawful a.usable.0 x.source ≡ true
 
   hidden_sourced : (n : ℕ) → ((i : ℕ) → i < n → source_lawful a.usable.0 (a.hidden_source i) ≡ true)
-      → All Sourced (hidden_arguments a n)
+      → AllByRecursion Sourced (hidden_arguments a n)
   unfolding hidden_arguments Sourced
   hidden_sourced zero each = tt
   hidden_sourced (suc n) each =
       All-push Sourced (hidden_arguments a n) (record { place = a.hidden_place n; source = a.hidden_source n })
       (hidden_sourced n (λ i below. each i (omega arith))) (each n (omega arith))
 
-  given_sourced : (k : ℕ) (ss : List Source) → All (λ s. source_in_range s ≡ true) ss → all_usable a.usable.0 ss ≡ true
-      → All Sourced (given_arguments a k ss)
+  given_sourced : (k : ℕ) (ss : List Source) → AllByRecursion (λ s. source_in_range s ≡ true) ss → all_usable a.usable.0 ss ≡ true
+      → AllByRecursion Sourced (given_arguments a k ss)
   unfolding Sourced
   given_sourced k [] ranged used = tt
   given_sourced k (s ∷ ss) ranged used =
       let both = and_parts (source_usable a.usable.0 s) (all_usable a.usable.0 ss) used in
       (given_lawful a.usable.0 s ranged.0 both.0, given_sourced (k + 1) ss ranged.1 both.1)
 
-all_both : {X : Type 0} (P Q : X → Type 0) (xs : List X) → All P xs → All Q xs → All (λ x. P x × Q x) xs
+all_both : {X : Type 0} (P Q : X → Type 0) (xs : List X) → AllByRecursion P xs → AllByRecursion Q xs → AllByRecursion (λ x. P x × Q x) xs
 all_both P Q [] ps qs = tt
 all_both P Q (x ∷ xs) ps qs = ((ps.0, qs.0), all_both P Q xs ps.1 qs.1)
 
@@ -149,15 +149,15 @@ module _ (a : Answers) (ss : List Source) (lawful : Lawful a) (fits : a.hidden +
       let j-below : j < a.hidden + length ss = omega arith in
       lawful.different (length ss) i j fits i-below j-below (sym (at i i-below) ∙ same ∙ at j j-below))
 
-  arguments_placed : All (λ x. place_lawful a.usable.0 (a.slots (length ss)) x.place ≡ true) (arguments_of a ss)
+  arguments_placed : AllByRecursion (λ x. place_lawful a.usable.0 (a.slots (length ss)) x.place ≡ true) (arguments_of a ss)
   arguments_placed =
       let count = length-arguments a ss in
       All-from_get_or (λ x. place_lawful a.usable.0 (a.slots (length ss)) x.place ≡ true) (arguments_of a ss) some_argument (λ i there.
       let below : i < a.hidden + length ss = omega arith in
       ap (place_lawful a.usable.0 (a.slots (length ss))) (place_at a ss i below) ∙ lawful.places (length ss) i fits below)
 
-  module _ (ranged : All (λ s. source_in_range s ≡ true) ss) (used : all_usable a.usable.0 ss ≡ true) where
-    arguments_sourced : All (Sourced a) (arguments_of a ss)
+  module _ (ranged : AllByRecursion (λ s. source_in_range s ≡ true) ss) (used : all_usable a.usable.0 ss ≡ true) where
+    arguments_sourced : AllByRecursion (Sourced a) (arguments_of a ss)
     arguments_sourced =
         All-append (Sourced a) (hidden_arguments a a.hidden) (given_arguments a 0 ss)
         (hidden_sourced a a.hidden (λ i. lawful.sources (length ss) i fits))

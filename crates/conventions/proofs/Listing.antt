@@ -4,7 +4,7 @@ use Rattle.std.proofs.ByRecursion.{All-from_get_or}
 use Rattle.std.proofs.lemmas.List.{get_or-set_other, get_or-set_same, get_or-take, length-take}
 use Rattle.std.proofs.lemmas.Bool.{cases_eq}
 use Rattle.std.proofs.lemmas.Bool.Decides.{nat_tests}
-use Rattle.std.specs.List.{AllByRecursion as All}
+use Rattle.std.specs.List.{AllByRecursion}
 use Rattle.conventions.specs.Arguments.{source_in_range}
 use Rattle.conventions.specs.Conventions.{argument_limit}
 use Rattle.conventions.specs.Lists.{listed, source_verdict}
@@ -36,7 +36,7 @@ set_ranged ss i s there in_range ranged k =
 pub listed_few : (l : ArgumentList) → length (listed l) ≤ argument_limit
 listed_few l = omega (arith, length-take l.count l.sources)
 
-pub listed_in_range : (l : ArgumentList) → All (λ s. source_in_range s ≡ true) (listed l)
+pub listed_in_range : (l : ArgumentList) → AllByRecursion (λ s. source_in_range s ≡ true) (listed l)
 listed_in_range l =
     All-from_get_or (λ s. source_in_range s ≡ true) (listed l) (Number 0)
     (λ k there. let below : k < l.count = omega (arith, length-take l.count l.sources) in

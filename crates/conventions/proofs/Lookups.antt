@@ -1,7 +1,7 @@
 -- What is known of an argument that is looked up. Assumes nothing.
 use Rattle.std.proofs.Common.{◌≡◌, List, [], ◌∷◌, Some, ap, subst, inl, inr, arith}
 use Rattle.std.proofs.lemmas.Bool.{cases_Bool}
-use Rattle.std.specs.List.{AllByRecursion as All}
+use Rattle.std.specs.List.{AllByRecursion}
 use Rattle.conventions.specs.Arguments.{Separate, same_place, source_at}
 use Rattle.conventions.specs.declared.arguments.Argument.{Argument}
 use Rattle.conventions.specs.declared.arguments.Place.{Place}
@@ -10,7 +10,7 @@ use Rattle.conventions.proofs.Places.{place_refl, place_same}
 
 -- what holds of all arguments holds of the one looked up
 pub looked_up : (P : Argument → Type 0) (xs : List Argument) (p : Place) (s : Source)
-    → All P xs → source_at xs p ≡ Some s → P (record { place = p; source = s })
+    → AllByRecursion P xs → source_at xs p ≡ Some s → P (record { place = p; source = s })
 looked_up P [] p s all e = absurd (grind (arith, e))
 looked_up P (a ∷ xs) p s all e =
     elim (cases_Bool (same_place a.place p)) [
@@ -23,7 +23,7 @@ looked_up P (a ∷ xs) p s all e =
 
 -- what holds of each argument that is found at its place holds of all
 pub all_looked_up : (P : Argument → Type 0) (xs : List Argument)
-    → Separate xs → ((p : Place) (s : Source) → source_at xs p ≡ Some s → P (record { place = p; source = s })) → All P xs
+    → Separate xs → ((p : Place) (s : Source) → source_at xs p ≡ Some s → P (record { place = p; source = s })) → AllByRecursion P xs
 all_looked_up P [] separate h = tt
 all_looked_up P (a ∷ xs) separate h = (
   h a.place a.source (grind (arith, place_refl a.place)),

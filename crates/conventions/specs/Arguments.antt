@@ -1,6 +1,6 @@
 -- Arguments: places and sources compared, looked up and in range. Assumes nothing.
 use Rattle.std.specs.Prelude.{◌≡◌, ℕ, Bool, true, false, cond, not, ◌&&◌, ltb, List, [], ◌∷◌, Some, None, Option, ◌==◌, nat_lt}
-use Rattle.std.specs.List.{AllByRecursion as All}
+use Rattle.std.specs.List.{AllByRecursion}
 use Rattle.machine.specs.Limits.{registers, local_slots}
 use Rattle.conventions.specs.declared.arguments.Argument.{Argument}
 use Rattle.conventions.specs.declared.arguments.Place.{Place}
@@ -70,7 +70,7 @@ Separate (a ∷ xs) = (source_at xs a.place ≡ None) × Separate xs
 -- scratch register
 pub record Arranged (xs : List Argument) (scratch slots : ℕ) : Type 0 where
   pub separate : Separate xs
-  pub places : All (λ a. place_in_range slots a.place ≡ true) xs
-  pub sources : All (λ a. source_in_range a.source ≡ true) xs
-  pub off_scratch : All (λ a. apart_from scratch a ≡ true) xs
+  pub places : AllByRecursion (λ a. place_in_range slots a.place ≡ true) xs
+  pub sources : AllByRecursion (λ a. source_in_range a.source ≡ true) xs
+  pub off_scratch : AllByRecursion (λ a. apart_from scratch a ≡ true) xs
   pub scratch_in_range : ltb scratch registers ≡ true

@@ -2,7 +2,7 @@
 use Rattle.std.proofs.Common.{◌≡◌, ℕ, ◌≤◌, true, false, ◌⊎◌, List, [], ◌∷◌, length, Some, None, Option, sym, ap, ◌∙◌, subst, inl, inr, arith}
 use Rattle.std.proofs.lemmas.Bool.{cases_Bool, cases_eq}
 use Rattle.std.proofs.lemmas.Bool.Decides.{nat_tests}
-use Rattle.std.specs.List.{AllByRecursion as All}
+use Rattle.std.specs.List.{AllByRecursion}
 use Rattle.conventions.specs.declared.arguments.Argument.{Argument}
 use Rattle.conventions.specs.declared.arguments.Source.{Source}
 use Rattle.conventions.specs.declared.arguments.Source.TheVariants.{Number, Register as Held, Local}
@@ -18,7 +18,7 @@ among_cases q r rs h =
 pub among_tail : (q r : ℕ) (rs : List ℕ) → among rs r ≡ true → among (q ∷ rs) r ≡ true
 among_tail q r rs h = grind (arith, h)
 
-pub all_among : (P : ℕ → Type 0) (rs : List ℕ) → All P rs → (r : ℕ) → among rs r ≡ true → P r
+pub all_among : (P : ℕ → Type 0) (rs : List ℕ) → AllByRecursion P rs → (r : ℕ) → among rs r ≡ true → P r
 all_among P [] a r h = absurd (grind (arith, h))
 all_among P (q ∷ rs) a r h =
     elim (among_cases q r rs h) [ inl e ↦ subst P e a.0 | inr m ↦ all_among P rs a.1 r m ]

@@ -1,6 +1,6 @@
 -- What one write does to tokens that are alive. Assumes nothing.
 use Rattle.std.proofs.Common.{◌≡◌, true, false, not, List, [], ◌∷◌, sym, refl, ap, ◌∙◌, subst, inl, inr, arith}
-use Rattle.std.specs.List.{AllByRecursion as All}
+use Rattle.std.specs.List.{AllByRecursion}
 use Rattle.std.proofs.lemmas.Bool.{both_ways, cases_Bool, cond_both, not-true}
 use Rattle.machine.specs.declared.steps.Step.{Step}
 use Rattle.conventions.specs.declared.arguments.Argument.{Argument}
@@ -71,7 +71,7 @@ module _ (xs : List Argument) (f : Map) (c : Cell) (w : Origin) where
       (λ e. same_false t w o lacks has ∙ sym (rw (cells_equal x c e) (clear o has)))
       (λ _. intact o has x)
 
-  pub all_stay : (ts : List Token) → All (Alive xs f) ts → All (Clear c) ts → All (λ t. not (t w) ≡ true) ts → All (Alive xs (write c w f)) ts
+  pub all_stay : (ts : List Token) → AllByRecursion (Alive xs f) ts → AllByRecursion (Clear c) ts → AllByRecursion (λ t. not (t w) ≡ true) ts → AllByRecursion (Alive xs (write c w f)) ts
   all_stay [] alive clear lack = tt
   all_stay (t ∷ ts) alive clear lack = (
     record { good = alive.0.good; intact = stays t alive.0.intact clear.0 (not-true (t w) lack.0) },

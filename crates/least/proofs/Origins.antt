@@ -1,6 +1,6 @@
 -- Moves on origins: where the word in each cell came from. Assumes nothing.
 use Rattle.std.proofs.Common.{◌≡◌, ℕ, Bool, true, false, cond, eqb, ltb, List, [], ◌∷◌, refl, ap, arith}
-use Rattle.std.specs.List.{AllByRecursion as All}
+use Rattle.std.specs.List.{AllByRecursion}
 use Rattle.std.proofs.lemmas.Bool.{and_parts, eqb-true}
 use Rattle.std.proofs.lemmas.Bool.Decides.{nat_tests}
 use Rattle.machine.specs.Limits.{registers, local_slots}
@@ -111,9 +111,9 @@ after (Call r m) f = f
 after (Pop b) f = f
 
 abbrev pub Moves : List Step → Type 0
-Moves ps = All (λ p. is_move p ≡ true) ps
+Moves ps = AllByRecursion (λ p. is_move p ≡ true) ps
 
-pub allowed_moves : (b : ℕ) (ps : List Step) → All (λ p. allowed b p ≡ true) ps → Moves ps
+pub allowed_moves : (b : ℕ) (ps : List Step) → AllByRecursion (λ p. allowed b p ≡ true) ps → Moves ps
 allowed_moves b [] h = tt
 allowed_moves b (p ∷ ps) h = ((and_parts (is_move p) (in_range p (reserved_turn b)) h.0).0, allowed_moves b ps h.1)
 

@@ -1,6 +1,6 @@
 -- A call's arguments on origins: which are in their places. Assumes nothing.
 use Rattle.std.proofs.Common.{◌≡◌, ℕ, true, false, cond, eqb, ltb, List, [], ◌∷◌, Some, sym, refl, ◌∙◌, inl, inr, arith}
-use Rattle.std.specs.List.{AllByRecursion as All}
+use Rattle.std.specs.List.{AllByRecursion}
 use Rattle.std.proofs.lemmas.Bool.{cases_Bool, cond-true}
 use Rattle.std.proofs.lemmas.Bool.Decides.{nat_tests}
 use Rattle.machine.specs.Limits.{registers, local_slots}
@@ -34,11 +34,11 @@ abbrev pub Wants : List Argument → Place → Source → Type 0
 Wants xs p v = source_at xs p ≡ Some v
 
 abbrev pub SourcesInRange : List Argument → Type 0
-SourcesInRange xs = All (λ a. source_in_range a.source ≡ true) xs
+SourcesInRange xs = AllByRecursion (λ a. source_in_range a.source ≡ true) xs
 
 -- each argument's place holds its source's origin
 abbrev pub Right : Map → List Argument → Type 0
-Right f xs = All (λ a. f (cell_of a.place) ≡ origin_of a.source) xs
+Right f xs = AllByRecursion (λ a. f (cell_of a.place) ≡ origin_of a.source) xs
 
 place_origin : (s : Start) (f : Map) (σ : State) (p : Place) → Agrees s f σ → place_word σ p ≡ stands s (f (cell_of p))
 place_origin s f σ (Register r) h = h (register r.0)

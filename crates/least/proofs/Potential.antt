@@ -1,6 +1,6 @@
 -- Places still wrong and intact tokens together are at most the moves left. Assumes nothing.
 use Rattle.std.proofs.Common.{◌≡◌, ◌+◌, ◌≤◌, not, List, [], ◌∷◌, length, sym, ◌∙◌, subst, inl, inr, arith}
-use Rattle.std.specs.List.{AllByRecursion as All}
+use Rattle.std.specs.List.{AllByRecursion}
 use Rattle.std.proofs.ByRecursion.{all_kept_by, All-weaker, kept_by_passes}
 use Rattle.std.proofs.lemmas.Bool.{both_ways, cases_Bool}
 use Rattle.machine.specs.declared.steps.Step.{Step}
@@ -17,13 +17,13 @@ use Rattle.least.proofs.Wrong.{mends_none, mends_one, none_wrong, wrong}
 -- the tokens after a write, which lowered the places still wrong and the tokens by at most one
 record Next (xs : List Argument) (f g : Map) (ts : List Token) : Type 0 where
   rest : List Token
-  alive : All (Alive xs g) rest
+  alive : AllByRecursion (Alive xs g) rest
   apart : Apart rest
   paid : wrong f xs + length ts ≤ wrong g xs + length rest + 1
 
 module _ (xs : List Argument) (separate : Separate xs) (ts : List Token) where
   -- a write that changes its cell either mends at most one place and costs no token, or mends none and costs one
-  paid_by : (f : Map) (c : Cell) (w : Origin) → Through f c w → All (Alive xs f) ts → All (Clear c) ts → Apart ts → wrong f xs + length ts ≤ wrong (write c w f) xs + length (without w ts) + 1
+  paid_by : (f : Map) (c : Cell) (w : Origin) → Through f c w → AllByRecursion (Alive xs f) ts → AllByRecursion (Clear c) ts → Apart ts → wrong f xs + length ts ≤ wrong (write c w f) xs + length (without w ts) + 1
   paid_by f c w through alive clears apart =
       elim (holder (Alive xs f) (Clear c) w ts alive clears) [
         | inl lack ↦ omega (arith, none_lost w ts lack, mends_one f c w xs separate)
@@ -32,7 +32,7 @@ module _ (xs : List Argument) (separate : Separate xs) (ts : List Token) where
             omega (arith, one_lost w ts apart, mends_none f c w xs unwanted)
       ]
 
-  changing : (f : Map) (c : Cell) (w : Origin) → Through f c w → All (Alive xs f) ts → All (Clear c) ts → Apart ts → Next xs f (write c w f) ts
+  changing : (f : Map) (c : Cell) (w : Origin) → Through f c w → AllByRecursion (Alive xs f) ts → AllByRecursion (Clear c) ts → Apart ts → Next xs f (write c w f) ts
   changing f c w through alive clears apart =
       let stay = λ (t : Token). not (t w) in
       record {
@@ -42,7 +42,7 @@ module _ (xs : List Argument) (separate : Separate xs) (ts : List Token) where
         paid = paid_by f c w through alive clears apart;
       }
 
-  written : (f : Map) (c : Cell) (w : Origin) → Through f c w → (ps : List Step) → Moves ps → All (Alive xs f) ts → Apart ts → Right (after_all ps (write c w f)) xs → Next xs f (write c w f) ts
+  written : (f : Map) (c : Cell) (w : Origin) → Through f c w → (ps : List Step) → Moves ps → AllByRecursion (Alive xs f) ts → Apart ts → Right (after_all ps (write c w f)) xs → Next xs f (write c w f) ts
   written f c w through ps moves alive apart right =
       elim (cases_Bool (same_origin (f c) w)) [
         | inl same ↦ subst (λ g. Next xs f g ts) (idle xs f c w same) (record { rest = ts; alive = alive; apart = apart; paid = omega arith })
@@ -50,7 +50,7 @@ module _ (xs : List Argument) (separate : Separate xs) (ts : List Token) where
             changing f c w through alive (All-weaker (Alive xs f) (Clear c) (λ t h. clear xs f c w ps t differs moves right h) ts alive) apart
       ]
 
-  next : (f g : Map) → Write f g → (ps : List Step) → Moves ps → All (Alive xs f) ts → Apart ts → Right (after_all ps g) xs → Next xs f g ts
+  next : (f g : Map) → Write f g → (ps : List Step) → Moves ps → AllByRecursion (Alive xs f) ts → Apart ts → Right (after_all ps g) xs → Next xs f g ts
   next f g move ps moves alive apart =
       subst (λ h. Right (after_all ps h) xs → Next xs f h ts) (sym move.result) (written f move.cell move.origin move.through ps moves alive apart)
 
@@ -61,7 +61,7 @@ none_alive xs f right t alive =
     both_ways (same_origin (f (cell_of p)) (origin_of v)) (alive.intact (origin_of v) has (cell_of p) ∙ away) (same_true _ _ (right_at f xs right p v found))
 
 module _ (xs : List Argument) (separate : Separate xs) where
-  pub potential : (ps : List Step) (f : Map) → Moves ps → Right (after_all ps f) xs → (ts : List Token) → All (Alive xs f) ts → Apart ts → wrong f xs + length ts ≤ length ps
+  pub potential : (ps : List Step) (f : Map) → Moves ps → Right (after_all ps f) xs → (ts : List Token) → AllByRecursion (Alive xs f) ts → Apart ts → wrong f xs + length ts ≤ length ps
   potential [] f moves right [] alive apart = omega (arith, none_wrong f xs right)
   potential [] f moves right (t ∷ ts) alive apart = absurd (none_alive xs f right t alive.0)
   potential (p ∷ ps) f moves right ts alive apart =

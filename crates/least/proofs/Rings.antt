@@ -1,6 +1,6 @@
 -- The tokens of closed rings are good, and apart. Assumes nothing.
 use Rattle.std.proofs.Common.{◌≡◌, ℕ, ◌≤◌, true, false, eqb, ◌⊎◌, List, [], ◌∷◌, map, length, refl, inl, arith}
-use Rattle.std.specs.List.{AllByRecursion as All}
+use Rattle.std.specs.List.{AllByRecursion}
 use Rattle.std.proofs.ByRecursion.{All-map, All-weaker}
 use Rattle.std.proofs.lemmas.Bool.{both_ways, ne_eqb, or_right}
 use Rattle.conventions.specs.Arguments.{from_register, in_register}
@@ -50,7 +50,7 @@ ring_good xs rs closed = record {
   moved = ring_moved xs closed.ring.chain closed.ring.different closed.ring.two;
 }
 
-pub rings_good : (xs : List Argument) (rings : List (List ℕ)) → All (Closed xs) rings → All (Good xs) (map ring_token rings)
+pub rings_good : (xs : List Argument) (rings : List (List ℕ)) → AllByRecursion (Closed xs) rings → AllByRecursion (Good xs) (map ring_token rings)
 rings_good xs rings closed = All-map (Good xs) ring_token rings (All-weaker (Closed xs) (λ rs. Good xs (ring_token rs)) (ring_good xs) rings closed)
 
 rings_off : (rs qs : List ℕ) → ((r : ℕ) → among rs r ≡ true → among qs r ≡ false) → Off (ring_token rs) (ring_token qs)

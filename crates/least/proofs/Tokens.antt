@@ -1,6 +1,6 @@
 -- Tokens: sets of origins that stay in their own cells until one more move is spent on them. Assumes nothing.
 use Rattle.std.proofs.Common.{◌≡◌, ℕ, suc, ◌+◌, ◌≤◌, Bool, true, false, not, ◌⊎◌, List, [], ◌∷◌, length, filter, refl, ap, inl, inr, arith}
-use Rattle.std.specs.List.{AllByRecursion as All}
+use Rattle.std.specs.List.{AllByRecursion}
 use Rattle.std.proofs.ByRecursion.{all_kept_by, All-weaker}
 use Rattle.std.proofs.lemmas.Bool.{cases_Bool, cond_both}
 use Rattle.conventions.specs.declared.arguments.Argument.{Argument}
@@ -51,7 +51,7 @@ Off t u = (o : Origin) → t o ≡ true → u o ≡ false
 -- no origin is in two of the tokens
 abbrev pub Apart : List Token → Type 0
 Apart [] = Unit {0}
-Apart (t ∷ ts) = All (Off t) ts × Apart ts
+Apart (t ∷ ts) = AllByRecursion (Off t) ts × Apart ts
 
 -- the tokens that do not have an origin
 abbrev pub without : Origin → List Token → List Token
@@ -63,7 +63,7 @@ without_apart w (t ∷ ts) h =
     let rest = without_apart w ts h.1 in
     cond_both (not (t w)) (t ∷ without w ts) (without w ts) Apart (λ _. (all_kept_by (λ u. not (u w)) (Off t) ts h.0, rest)) (λ _. rest)
 
-pub none_lost : (w : Origin) (ts : List Token) → All (λ t. t w ≡ false) ts → length (without w ts) ≡ length ts
+pub none_lost : (w : Origin) (ts : List Token) → AllByRecursion (λ t. t w ≡ false) ts → length (without w ts) ≡ length ts
 none_lost w [] h = refl
 none_lost w (t ∷ ts) h = let rest = none_lost w ts h.1 in rw h.0 (ap suc rest)
 
@@ -73,13 +73,13 @@ one_lost w [] h = omega arith
 one_lost w (t ∷ ts) h =
     elim (cases_Bool (t w)) [
       | inl e ↦
-          let lack : All (λ u. u w ≡ false) ts = All-weaker (Off t) (λ (u : Token). u w ≡ false) (λ u k. k w e) ts h.0 in
+          let lack : AllByRecursion (λ u. u w ≡ false) ts = All-weaker (Off t) (λ (u : Token). u w ≡ false) (λ u k. k w e) ts h.0 in
           rw e (omega (arith, none_lost w ts lack))
       | inr e ↦ let rest = one_lost w ts h.1 in rw e (omega (arith, rest))
     ]
 
 -- either no token has the origin, or one with P and Q does
-pub holder : (P Q : Token → Type 0) (w : Origin) (ts : List Token) → All P ts → All Q ts → All (λ t. t w ≡ false) ts ⊎ ((t : Token) × (t w ≡ true) × P t × Q t)
+pub holder : (P Q : Token → Type 0) (w : Origin) (ts : List Token) → AllByRecursion P ts → AllByRecursion Q ts → AllByRecursion (λ t. t w ≡ false) ts ⊎ ((t : Token) × (t w ≡ true) × P t × Q t)
 holder P Q w [] h k = inl tt
 holder P Q w (t ∷ ts) h k =
     elim (cases_Bool (t w)) [

@@ -1,6 +1,6 @@
 -- The tokens of values that only outgoing slots want are good, and apart. Assumes nothing.
 use Rattle.std.proofs.Common.{◌≡◌, ℕ, true, false, ◌⊎◌, List, [], ◌∷◌, map, refl, ap, ◌∙◌, subst, inr, arith}
-use Rattle.std.specs.List.{AllByRecursion as All}
+use Rattle.std.specs.List.{AllByRecursion}
 use Rattle.std.proofs.ByRecursion.{All-map, All-weaker}
 use Rattle.std.proofs.lemmas.Bool.{eqb-true, or_parts}
 use Rattle.conventions.specs.Arguments.{in_slot, same_source}
@@ -63,14 +63,14 @@ value_good xs v spread = record {
   moved = (in_slot spread.slot, v, spread.wanted, same_origin_refl (origin_of v), no_outgoing v spread.slot);
 }
 
-pub values_good : (xs : List Argument) (vs : List Source) → All (Spread xs) vs → All (Good xs) (map value_token vs)
+pub values_good : (xs : List Argument) (vs : List Source) → AllByRecursion (Spread xs) vs → AllByRecursion (Good xs) (map value_token vs)
 values_good xs vs spread = All-map (Good xs) value_token vs (All-weaker (Spread xs) (λ v. Good xs (value_token v)) (value_good xs) vs spread)
 
 -- a token has nothing of another value's token if it has not that value
 lacks_value : (t : Token) (v : Source) → t (origin_of v) ≡ false → Off (value_token v) t
 lacks_value t v e o h = rw (← origins_equal (origin_of v) o h) e
 
-value_alone : (v : Source) (vs : List Source) → has_source vs v ≡ false → All (Off (value_token v)) (map value_token vs)
+value_alone : (v : Source) (vs : List Source) → has_source vs v ≡ false → AllByRecursion (Off (value_token v)) (map value_token vs)
 value_alone v [] e = tt
 value_alone v (w ∷ vs) e =
     let parts = or_parts (same_source w v) (has_source vs v) e in

@@ -1,6 +1,6 @@
 -- How many arguments are not in their places, and what one write does to that. Assumes nothing.
 use Rattle.std.proofs.Common.{◌≡◌, ℕ, ◌+◌, ◌≤◌, Bool, true, false, cond, List, [], ◌∷◌, None, sym, refl, ap, ◌∙◌, inl, inr, arith}
-use Rattle.std.specs.List.{AllByRecursion as All}
+use Rattle.std.specs.List.{AllByRecursion}
 use Rattle.std.proofs.lemmas.Bool.{cases_Bool, cond-false, cond-true}
 use Rattle.conventions.specs.Arguments.{Separate, at_home, same_place, source_at}
 use Rattle.conventions.specs.declared.arguments.Argument.{Argument}
@@ -70,7 +70,7 @@ module _ (f : Map) (c : Cell) (w : Origin) where
   right_new p v m e = sym (origins_equal _ _ e) ∙ cond-true _ _ _ m
 
   -- it mends no place if no argument wants the origin there
-  pub mends_none : (xs : List Argument) → All (λ a. cell_of a.place ≡ c → origin_of a.source ≡ w → ⊥) xs → wrong f xs ≤ wrong (write c w f) xs
+  pub mends_none : (xs : List Argument) → AllByRecursion (λ a. cell_of a.place ≡ c → origin_of a.source ≡ w → ⊥) xs → wrong f xs ≤ wrong (write c w f) xs
   mends_none [] h = omega arith
   mends_none (a ∷ xs) h =
       let rest = mends_none xs h.1 in

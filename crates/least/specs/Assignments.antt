@@ -1,6 +1,6 @@
 -- The simultaneous assignment of a call's arguments. Assumes nothing.
 use Rattle.std.specs.Prelude.{◌≡◌, ℕ, cond, List, None, ◌==◌, ◌≢◌}
-use Rattle.std.specs.List.{AllByRecursion as All}
+use Rattle.std.specs.List.{AllByRecursion}
 use Rattle.machine.specs.States.{State}
 use Rattle.machine.specs.Effects.{effect}
 use Rattle.machine.specs.declared.steps.Step.TheVariants.{Reserve}
@@ -30,7 +30,7 @@ reserved b σ = cond (b == 0) σ (effect (Reserve b) σ)
 
 -- in τ each argument's place holds what its source gave in σ
 abbrev pub Placed : List Argument → State → State → Type 0
-Placed xs σ τ = All (λ a. place_word τ a.place ≡ source_word σ a.source) xs
+Placed xs σ τ = AllByRecursion (λ a. place_word τ a.place ≡ source_word σ a.source) xs
 
 -- From σ to τ the arguments were put into their places all at once: each place holds its source's former word; every local
 -- slot, and every register that is neither an argument's place nor the scratch, is unaltered.

@@ -1,6 +1,6 @@
 -- The counts N, C and M of a call's arguments. Assumes nothing.
 use Rattle.std.specs.Prelude.{◌≡◌, ℕ, ◌+◌, ◌≤◌, Bool, true, false, cond, ◌||◌, ◌⊎◌, List, [], ◌∷◌, length, Some, ◌==◌, ◌≢◌}
-use Rattle.std.specs.List.{AllByRecursion as All}
+use Rattle.std.specs.List.{AllByRecursion}
 use Rattle.conventions.specs.Arguments.{at_home, from_register, in_register, in_slot, same_source, source_at}
 use Rattle.conventions.specs.declared.arguments.Argument.{Argument}
 use Rattle.conventions.specs.declared.arguments.Place.{Place}
@@ -54,7 +54,7 @@ pub record Closed (xs : List Argument) (rs : List ℕ) : Type 0 where
 -- no register is in two of the lists
 abbrev pub Disjoint : List (List ℕ) → Type 0
 Disjoint [] = Unit {0}
-Disjoint (rs ∷ rest) = All (λ qs. (r : ℕ) → among rs r ≡ true → among qs r ≡ false) rest × Disjoint rest
+Disjoint (rs ∷ rest) = AllByRecursion (λ qs. (r : ℕ) → among rs r ≡ true → among qs r ≡ false) rest × Disjoint rest
 
 -- one of the lists has just these registers
 abbrev pub Listed : List ℕ → List (List ℕ) → Type 0
@@ -64,7 +64,7 @@ Listed rs (qs ∷ rest) = ((r : ℕ) → among rs r ≡ among qs r) ⊎ Listed r
 -- C: there are c closed rings
 pub record Rings (xs : List Argument) (c : ℕ) : Type 0 where
   pub rings : List (List ℕ)
-  pub closed : All (Closed xs) rings
+  pub closed : AllByRecursion (Closed xs) rings
   pub disjoint : Disjoint rings
   pub every : (rs : List ℕ) → Closed xs rs → Listed rs rings
   pub count : length rings ≡ c
@@ -94,7 +94,7 @@ Distinct (v ∷ vs) = (has_source vs v ≡ false) × Distinct vs
 -- M: there are m such numbers and local slots
 pub record Values (xs : List Argument) (m : ℕ) : Type 0 where
   pub values : List Source
-  pub spread : All (Spread xs) values
+  pub spread : AllByRecursion (Spread xs) values
   pub distinct : Distinct values
   pub every : (v : Source) → Spread xs v → has_source values v ≡ true
   pub count : length values ≡ m

@@ -1,6 +1,6 @@
 -- Rivals: other lists of moves that place a call's arguments. Assumes nothing.
 use Rattle.std.specs.Prelude.{◌≡◌, ℕ, ◌^◌, ◌<◌, Bool, true, false, cond, ◌&&◌, List, ◌==◌}
-use Rattle.std.specs.List.{AllByRecursion as All}
+use Rattle.std.specs.List.{AllByRecursion}
 use Rattle.machine.specs.Words.{Start}
 use Rattle.machine.specs.States.{begin}
 use Rattle.machine.specs.Turns.{in_range}
@@ -47,5 +47,5 @@ pub record Ordinary (s : Start) : Type 0 where
 -- A rival: a list of moves in range that, after the same reservation and from every start of 64-bit words, leaves each
 -- argument's place with what its source held in that start, or its number. It may spoil everything else.
 pub record Rival (xs : List Argument) (b : ℕ) (ps : List Step) : Type 0 where
-  pub moves : All (λ p. allowed b p ≡ true) ps
+  pub moves : AllByRecursion (λ p. allowed b p ≡ true) ps
   pub places : (s : Start) → Ordinary s → Placed xs (begin s) (run ps (reserved b (begin s)))

@@ -4,7 +4,7 @@ use Rattle.std.proofs.ByRecursion.{All-get_or}
 use Rattle.std.proofs.lemmas.List.{at_drop_more, drop_all, get_or-set_other, get_or-set_same}
 use Rattle.std.proofs.lemmas.Bool.{cases_eq}
 use Rattle.std.proofs.lemmas.Bool.Decides.{nat_tests}
-use Rattle.std.specs.List.{AllByRecursion as All}
+use Rattle.std.specs.List.{AllByRecursion}
 use Rattle.machine.specs.Limits.{outgoing_slots, registers}
 use Rattle.machine.specs.declared.places.OutgoingSlot.{OutgoingSlot}
 use Rattle.machine.specs.declared.places.Register.{Register as NumberOf}
@@ -79,7 +79,7 @@ module _ (xs : List Argument) (i : ℕ) (d : Argument) (some : 0 < i) (most : i 
   }
 
 -- the place of an argument is in the tables
-pub place_there : (xs : List Argument) (i : ℕ) (d : Argument) → All (λ a. place_in_range outgoing_slots a.place ≡ true) xs → 0 < i → i ≤ length xs → (p : Place) → (get_or xs (i - 1) d).place ≡ p → place_in_range outgoing_slots p ≡ true
+pub place_there : (xs : List Argument) (i : ℕ) (d : Argument) → AllByRecursion (λ a. place_in_range outgoing_slots a.place ≡ true) xs → 0 < i → i ≤ length xs → (p : Place) → (get_or xs (i - 1) d).place ≡ p → place_in_range outgoing_slots p ≡ true
 place_there xs i d all some most p at =
     ap (place_in_range outgoing_slots) (sym at) ∙ All-get_or (λ a. place_in_range outgoing_slots a.place ≡ true) xs (i - 1) d (omega arith) all
 

@@ -2,7 +2,7 @@
 use Rattle.std.proofs.Common.{◌≡◌, ℕ, ◌≤◌, true, List, length, sym, ap, ◌∙◌, subst, arith}
 use mathlib.Core.Path.{transport}
 use Rattle.std.proofs.lemmas.List.{length-take}
-use Rattle.std.specs.List.{AllByRecursion as All}
+use Rattle.std.specs.List.{AllByRecursion}
 use Rattle.machine.specs.Limits.{outgoing_slots}
 use Rattle.conventions.specs.Arguments.{place_in_range}
 use Rattle.conventions.specs.Calls.{Filled, arguments_in, arguments_of, bytes_for}
@@ -27,9 +27,9 @@ module _ (a : Answers) (ss : List Source) (t : Arguments) (filled : Filled a ss 
   are : es ≡ arguments_of a ss
   are = held ∙ filled.are
 
-  pub entries_placed : All (λ x. place_in_range outgoing_slots x.place ≡ true) es
+  pub entries_placed : AllByRecursion (λ x. place_in_range outgoing_slots x.place ≡ true) es
   entries_placed =
-      subst (λ xs. All (λ (x : Argument). place_in_range outgoing_slots x.place ≡ true) xs) (sym are)
+      subst (λ xs. AllByRecursion (λ (x : Argument). place_in_range outgoing_slots x.place ≡ true) xs) (sym are)
       (all_placed (arguments_of a ss) a.scratch.0 (a.slots (length ss)) filled.arranged filled.slots_few)
 
   entries_few : length es ≤ argument_limit

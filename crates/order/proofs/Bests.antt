@@ -3,7 +3,7 @@ use Rattle.std.proofs.Common.{◌≡◌, ℕ, ◌+◌, ◌*◌, ◌/◌, ◌≤�
 use Rattle.std.proofs.ByRecursion.{All-weaker}
 use Rattle.std.proofs.lemmas.Bool.{cases_Bool, lt-ltb, ltb-true}
 use Rattle.std.proofs.lemmas.Bool.Decides.{nat_tests}
-use Rattle.std.specs.List.{AllByRecursion as All}
+use Rattle.std.specs.List.{AllByRecursion}
 use Rattle.machine.specs.Limits.{outgoing_slots, slot_bytes}
 use Rattle.machine.specs.States.{State, begin}
 use Rattle.machine.specs.Turns.{held}
@@ -65,7 +65,7 @@ wider slots (Outgoing o) few h = lt-ltb o.0 outgoing_slots (omega (arith, ltb-tr
 
 -- what an arrangement says of places, where there are no more slots than the machine has
 module _ (xs : List Argument) (scratch slots : ℕ) (arranged : Arranged xs scratch slots) (few : slots ≤ outgoing_slots) where
-  pub all_placed : All (λ a. place_in_range outgoing_slots a.place ≡ true) xs
+  pub all_placed : AllByRecursion (λ a. place_in_range outgoing_slots a.place ≡ true) xs
   all_placed = All-weaker _ _ (λ a h. wider slots a.place few h) xs arranged.places
 
   scratch_idle : pending (opening_table (wants xs)) scratch ≡ false

@@ -2,7 +2,7 @@
 use Rattle.std.proofs.Common.{◌≡◌, ℕ, zero, suc, ◌+◌, Bool, true, false, cond, not, List, [], ◌∷◌, length, is_some, Some, None, Option, refl, ap, ◌∙◌, arith, length-append}
 use Rattle.std.proofs.lemmas.Bool.{ltb-true}
 use Rattle.std.proofs.lemmas.Bool.Decides.{nat_tests}
-use Rattle.std.specs.List.{AllByRecursion as All}
+use Rattle.std.specs.List.{AllByRecursion}
 use Rattle.machine.specs.Limits.{outgoing_slots, registers}
 use Rattle.machine.specs.declared.places.OutgoingSlot.{OutgoingSlot}
 use Rattle.conventions.specs.Arguments.{Separate, at_home, in_register, in_slot, place_in_range, source_at}
@@ -79,7 +79,7 @@ needed_more (Outgoing q) s xs alone below rest =
     slot_away o (Local n) = refl
 
 -- N, by places
-pub needed_sum : (xs : List Argument) → Separate xs → All (λ a. place_in_range outgoing_slots a.place ≡ true) xs → needed xs ≡ by_registers xs + by_slots xs
+pub needed_sum : (xs : List Argument) → Separate xs → AllByRecursion (λ a. place_in_range outgoing_slots a.place ≡ true) xs → needed xs ≡ by_registers xs + by_slots xs
 needed_sum [] separate ranged =
     let one = sum_none (λ r. bit (moved r None)) registers (λ i k. refl) in
     let two = sum_none (λ o. bit (is_some {T = Source} None)) outgoing_slots (λ i k. refl) in

@@ -2,7 +2,7 @@
 use Rattle.std.proofs.Common.{◌≡◌, ℕ, zero, suc, ◌+◌, ◌<◌, Bool, true, false, ◌||◌, ◌⊎◌, List, ◌++◌, is_some, Some, None, Option, sym, refl, ap, ◌∙◌, subst, inl, inr, add-one, arith}
 use Rattle.std.proofs.ByRecursion.{All-append}
 use Rattle.std.proofs.lemmas.Bool.{cases_Bool, cases_eq, cases_order}
-use Rattle.std.specs.List.{AllByRecursion as All}
+use Rattle.std.specs.List.{AllByRecursion}
 use Rattle.machine.specs.States.{State}
 use Rattle.machine.specs.Effects.{run}
 use Rattle.machine.specs.declared.steps.Step.{Step}
@@ -102,7 +102,7 @@ run_each P f (suc n) σ start step =
     let before = run_each P f n σ start (λ i τ h. step i τ (omega arith)) in
     subst (P (suc n)) (sym (run_append (each f n) (f n) σ)) (step n (run (each f n) σ) (omega arith) before)
 
-pub all_each : {A : Type 0} (P : A → Type 0) (f : ℕ → List A) (n : ℕ) → ((i : ℕ) → i < n → All P (f i)) → All P (each f n)
+pub all_each : {A : Type 0} (P : A → Type 0) (f : ℕ → List A) (n : ℕ) → ((i : ℕ) → i < n → AllByRecursion P (f i)) → AllByRecursion P (each f n)
 unfolding each
 all_each P f zero h = tt
 all_each P f (suc n) h = All-append P (each f n) (f n) (all_each P f n (λ i k. h i (omega arith))) (h n (omega arith))

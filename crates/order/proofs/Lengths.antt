@@ -1,7 +1,7 @@
 -- The order has N + C + M moves. Assumes nothing.
 use Rattle.std.proofs.Common.{◌≡◌, ℕ, ◌+◌, true, false, not, List, ◌++◌, length, is_some, Some, None, Option, refl, ap, inl, inr, arith, length-append}
 use Rattle.std.proofs.lemmas.Bool.Decides.{nat_tests}
-use Rattle.std.specs.List.{AllByRecursion as All}
+use Rattle.std.specs.List.{AllByRecursion}
 use Rattle.machine.specs.Limits.{outgoing_slots, registers}
 use Rattle.conventions.specs.Arguments.{Separate, in_register, place_in_range, same_place}
 use Rattle.conventions.specs.declared.arguments.Argument.{Argument}
@@ -62,7 +62,7 @@ settled_count w scratch idle =
     let none = sum_none (λ r. bit (pending (tables w scratch choices o) r)) registers (λ r h. ap bit (ends w scratch o idle r h)) in
     omega arith
 
-pub order_length : (xs : List Argument) (scratch : ℕ) → Separate xs → All (λ a. place_in_range outgoing_slots a.place ≡ true) xs → pending (opening_table (wants xs)) scratch ≡ false → length (order xs scratch) ≡ needed xs + length (opened (wants xs) scratch) + length (values_spread (wants xs))
+pub order_length : (xs : List Argument) (scratch : ℕ) → Separate xs → AllByRecursion (λ a. place_in_range outgoing_slots a.place ≡ true) xs → pending (opening_table (wants xs)) scratch ≡ false → length (order xs scratch) ≡ needed xs + length (opened (wants xs) scratch) + length (values_spread (wants xs))
 order_length xs scratch separate ranged idle =
     let w = wants xs in
     let need = needed_sum xs separate ranged in

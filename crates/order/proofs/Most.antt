@@ -1,7 +1,7 @@
 -- How many moves there are at most. Assumes nothing.
 use Rattle.std.proofs.Common.{◌≡◌, ℕ, zero, suc, ◌+◌, ◌*◌, ◌≤◌, true, false, not, List, [], ◌∷◌, length, is_some, Some, None, Option, inl, inr, arith, length-append}
 use Rattle.std.proofs.lemmas.Bool.{cases_Bool}
-use Rattle.std.specs.List.{AllByRecursion as All}
+use Rattle.std.specs.List.{AllByRecursion}
 use Rattle.machine.specs.Limits.{outgoing_slots, registers}
 use Rattle.conventions.specs.Arguments.{Separate, at_home, in_register, in_slot, place_in_range}
 use Rattle.conventions.specs.declared.arguments.Argument.{Argument}
@@ -86,7 +86,7 @@ needed_most (a ∷ xs) = elim (cases_Bool (at_home a)) [
 ]
 
 -- the moves are at most twice the arguments
-pub order_most : (xs : List Argument) (scratch : ℕ) → Separate xs → All (λ a. place_in_range outgoing_slots a.place ≡ true) xs → pending (opening_table (wants xs)) scratch ≡ false → length (order xs scratch) ≤ 2 * length xs
+pub order_most : (xs : List Argument) (scratch : ℕ) → Separate xs → AllByRecursion (λ a. place_in_range outgoing_slots a.place ≡ true) xs → pending (opening_table (wants xs)) scratch ≡ false → length (order xs scratch) ≤ 2 * length xs
 order_most xs scratch separate ranged idle =
     let total = order_length xs scratch separate ranged idle in
     let need = needed_sum xs separate ranged in

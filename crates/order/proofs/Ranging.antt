@@ -2,7 +2,7 @@
 use Rattle.std.proofs.Common.{◌≡◌, ℕ, zero, suc, ◌/◌, ◌<◌, ◌≤◌, true, ltb, List, ◌++◌, Some, None, Option, refl, ap, ◌∙◌, inl, inr, arith}
 use Rattle.std.proofs.ByRecursion.{All-append}
 use Rattle.std.proofs.lemmas.Bool.{and_from, cases_Bool, lt-ltb, ltb-true}
-use Rattle.std.specs.List.{AllByRecursion as All}
+use Rattle.std.specs.List.{AllByRecursion}
 use Rattle.machine.specs.Limits.{local_slots, outgoing_slots, registers, slot_bytes}
 use Rattle.machine.specs.Turns.{held}
 use Rattle.machine.specs.declared.steps.Step.{Step}
@@ -26,7 +26,7 @@ use Rattle.order.proofs.Turning.{stays, turning, turns}
 
 -- every step is allowed
 abbrev pub AllAllowed : ℕ → List Step → Type 0
-AllAllowed b ps = All (λ p. allowed b p ≡ true) ps
+AllAllowed b ps = AllByRecursion (λ p. allowed b p ≡ true) ps
 
 bring_allowed : (b d : ℕ) (s : Source) → d < registers → source_in_range s ≡ true → allowed b (bring d s) ≡ true
 bring_allowed b d (Number k) h in' = lt-ltb d registers h
@@ -145,5 +145,5 @@ module _ (w : Wants) (scratch slots b : ℕ) (fit : Fits w scratch slots) (room 
 
 -- the moves of a call with so many bytes reserved are in range
 pub ranged : (xs : List Argument) (scratch slots b : ℕ) → Arranged xs scratch slots → slots ≤ held (reserved_turn b) / slot_bytes
-    → All (λ p. allowed b p ≡ true) (order xs scratch)
+    → AllByRecursion (λ p. allowed b p ≡ true) (order xs scratch)
 ranged xs scratch slots b arranged room = order_allowed (wants xs) scratch slots b (fits xs scratch slots arranged) room

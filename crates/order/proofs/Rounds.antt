@@ -2,7 +2,7 @@
 use Rattle.std.proofs.Common.{◌≡◌, ℕ, zero, suc, ◌+◌, ◌<◌, ◌≤◌, true, List, [], ◌∷◌, length, Some, None, sym, refl, ap, ◌∙◌, subst, inl, inr, arith}
 use Rattle.std.proofs.lemmas.Bool.{and_from, and_parts, cases_eq, ltb-true}
 use Rattle.std.proofs.lemmas.Bool.Decides.{nat_tests}
-use Rattle.std.specs.List.{AllByRecursion as All}
+use Rattle.std.specs.List.{AllByRecursion}
 use Rattle.machine.specs.Limits.{outgoing_slots, registers}
 use Rattle.conventions.specs.Arguments.{from_register, in_register, in_slot, place_in_range, same_place, source_at}
 use Rattle.conventions.specs.declared.arguments.Argument.{Argument}
@@ -45,12 +45,12 @@ module _ (xs : List Argument) (scratch : ℕ) (t : Table) (f : Faithful (opening
       and_from (pending t e) (same_place (t e) (in_register r)) (names_pending t e (λ same. ne (register_same e r (sym same ∙ at)))) (same_places (t e) (in_register r) at)
 
   -- the chain grows at its front until the last register reads the first
-  grow : (d n x : ℕ) (rs : List ℕ) → Chain xs x d rs → Different rs → All (λ r. (r < registers) × (pending t r ≡ true)) rs → registers < length rs + n → (qs : List ℕ) × Round xs t d qs
+  grow : (d n x : ℕ) (rs : List ℕ) → Chain xs x d rs → Different rs → AllByRecursion (λ r. (r < registers) × (pending t r ≡ true)) rs → registers < length rs + n → (qs : List ℕ) × Round xs t d qs
   grow d zero x rs c different inside long =
       let few = different_few registers rs different (below rs inside) in
       absurd (omega arith)
     where
-      below : (qs : List ℕ) → All (λ r. (r < registers) × (pending t r ≡ true)) qs → All (λ r. r < registers) qs
+      below : (qs : List ℕ) → AllByRecursion (λ r. (r < registers) × (pending t r ≡ true)) qs → AllByRecursion (λ r. r < registers) qs
       below [] a = tt
       below (q ∷ qs) a = (a.0.0, below qs a.1)
   grow d (suc n) x rs c different inside long =

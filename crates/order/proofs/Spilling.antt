@@ -2,7 +2,7 @@
 use Rattle.std.proofs.Common.{◌≡◌, ℕ, zero, suc, ◌+◌, ◌<◌, true, false, ◌⊎◌, List, [], ◌∷◌, length, Some, sym, refl, ap, ◌∙◌, subst, inl, inr, arith, length-append}
 use Rattle.std.proofs.ByRecursion.{All-weaker}
 use Rattle.std.proofs.lemmas.Bool.{and_from, cases_Bool, ltb-true}
-use Rattle.std.specs.List.{AllByRecursion as All}
+use Rattle.std.specs.List.{AllByRecursion}
 use Rattle.machine.specs.Limits.{outgoing_slots, registers}
 use Rattle.conventions.specs.Arguments.{from_register, in_register, in_slot, place_in_range, same_place, source_at}
 use Rattle.conventions.specs.declared.arguments.Argument.{Argument}
@@ -52,8 +52,8 @@ Untouched o t rs = (r : ℕ) → among rs r ≡ true → (pending t r ≡ true) 
 
 -- rings found from table t on
 record Found (xs : List Argument) (t : Table) (rings : List (List ℕ)) : Type 0 where
-  closed : All (Closed xs) rings
-  waiting : All (λ rs. (r : ℕ) → among rs r ≡ true → Waits t r) rings
+  closed : AllByRecursion (Closed xs) rings
+  waiting : AllByRecursion (λ rs. (r : ℕ) → among rs r ≡ true → Waits t r) rings
   disjoint : Disjoint rings
   every : (rs : List ℕ) → Closed xs rs → Untouched (opening_table (wants xs)) t rs → Listed rs rings
 
@@ -163,7 +163,7 @@ module _ (xs : List Argument) (scratch : ℕ) (ranged : (p : Place) (s : Source)
           (scratch_other t scratch f.idle_scratch d (loop.inside d at_end).1)
           waits.1.2).1 refl
 
-      apart : (rest : List (List ℕ)) → All (Closed xs) rest → All (λ rs. (r : ℕ) → among rs r ≡ true → Waits (next_table scratch (spill d) t) r) rest → All (λ rs. (r : ℕ) → among qs r ≡ true → among rs r ≡ false) rest
+      apart : (rest : List (List ℕ)) → AllByRecursion (Closed xs) rest → AllByRecursion (λ rs. (r : ℕ) → among rs r ≡ true → Waits (next_table scratch (spill d) t) r) rest → AllByRecursion (λ rs. (r : ℕ) → among qs r ≡ true → among rs r ≡ false) rest
       apart [] all waits = tt
       apart (rs ∷ rest) all waits = (
         λ r m. elim (cases_Bool (among rs r)) [

@@ -1,7 +1,7 @@
 -- M is the number of sources spread from the scratch. Assumes nothing.
 use Rattle.std.proofs.Common.{◌≡◌, ℕ, zero, suc, ◌<◌, true, false, ◌||◌, List, [], ◌∷◌, ◌++◌, length, Some, None, Option, sym, refl, ap, ◌∙◌, subst, inl, inr, append-nil, arith}
 use Rattle.std.proofs.lemmas.Bool.{cases_Bool, cases_eq, ltb-true}
-use Rattle.std.specs.List.{AllByRecursion as All}
+use Rattle.std.specs.List.{AllByRecursion}
 use Rattle.machine.specs.Limits.{outgoing_slots, registers}
 use Rattle.conventions.specs.Arguments.{in_register, in_slot, place_in_range, same_source, source_at}
 use Rattle.conventions.specs.declared.arguments.Argument.{Argument}
@@ -95,7 +95,7 @@ module _ (xs : List Argument) where
       ]
 
   module _ (ranged : (p : Place) (s : Source) → source_at xs p ≡ Some s → place_in_range outgoing_slots p ≡ true) where
-    spread_counted : (o : ℕ) (want : Option Source) → source_at xs (in_slot o) ≡ want → All (Spread xs) (spread_value (wants xs) o want)
+    spread_counted : (o : ℕ) (want : Option Source) → source_at xs (in_slot o) ≡ want → AllByRecursion (Spread xs) (spread_value (wants xs) o want)
     spread_counted o None at = tt
     spread_counted o (Some s) at =
         elim (cases_Bool (spreads (wants xs) o s)) [

@@ -1,6 +1,6 @@
 // The wants of a call's arguments.
 ghost use Rattle.std.specs.Prelude.{◌≡◌, true};
-ghost use Rattle.std.specs.List.{AllByRecursion as All};
+ghost use Rattle.std.specs.List.{AllByRecursion};
 ghost use Rattle.machine.specs.Limits.{outgoing_slots};
 ghost use Rattle.conventions.specs.Arguments.{place_in_range};
 ghost use Rattle.order.specs.Wants.{wants};
@@ -13,7 +13,7 @@ use machine::limits::{OUTGOING_SLOTS, REGISTERS};
 impl Wants {
     // From the last argument to the first, each in its own place.
     pub(crate) fn of(arguments: &[Argument]) -> Wants
-        requires { All (λ a. place_in_range outgoing_slots a.place ≡ true) arguments.now }
+        requires { AllByRecursion (λ a. place_in_range outgoing_slots a.place ≡ true) arguments.now }
         ensures { wants_in result ≡ wants arguments.now }
     {
         let mut by_register = [None; REGISTERS as usize];
