@@ -8,7 +8,6 @@ use machine::refusals::Refusal;
 use machine::steps::Step;
 use std::fmt::Debug;
 use std::process::Abort;
-use std::test::Fail;
 use tape::tapes::Tape;
 use tape::whole::check_tape;
 
@@ -163,7 +162,7 @@ fn bench_ends(rt: HostRuntime) {
 
 // With nine free bytes there is no room, which comes after range and turn.
 #[test]
-fn nine_bytes(rt: HostRuntime) -> Result<(), Fail> {
+fn nine_bytes(rt: HostRuntime) {
     tape_answers(
         &rt,
         &mut [0xEE; 9],
@@ -180,11 +179,10 @@ fn nine_bytes(rt: HostRuntime) -> Result<(), Fail> {
         ],
         &[],
     );
-    Ok(())
 }
 
 #[test]
-fn nine_bytes_when_reserved(rt: HostRuntime) -> Result<(), Fail> {
+fn nine_bytes_when_reserved(rt: HostRuntime) {
     tape_answers(
         &rt,
         &mut [0xEE; 12],
@@ -199,11 +197,10 @@ fn nine_bytes_when_reserved(rt: HostRuntime) -> Result<(), Fail> {
         ],
         &[7, 16, 0],
     );
-    Ok(())
 }
 
 #[test]
-fn nine_bytes_when_called(rt: HostRuntime) -> Result<(), Fail> {
+fn nine_bytes_when_called(rt: HostRuntime) {
     tape_answers(
         &rt,
         &mut [0xEE; 21],
@@ -217,11 +214,10 @@ fn nine_bytes_when_called(rt: HostRuntime) -> Result<(), Fail> {
         ],
         &[7, 16, 0, 8, 0, 0, 0, 0, 0, 0, 0, 0],
     );
-    Ok(())
 }
 
 #[test]
-fn ten_bytes(rt: HostRuntime) -> Result<(), Fail> {
+fn ten_bytes(rt: HostRuntime) {
     tape_answers(
         &rt,
         &mut [0xEE; 13],
@@ -232,5 +228,4 @@ fn ten_bytes(rt: HostRuntime) -> Result<(), Fail> {
         ],
         &[1, 1, 2, 2, 3, 8, 7, 6, 5, 4, 3, 2, 1],
     );
-    Ok(())
 }

@@ -67,7 +67,7 @@ fn bad_lists_on_a_bench(rt: HostRuntime) {
 }
 
 #[test]
-fn room_for_two(rt: HostRuntime) -> Result<(), Fail> {
+fn room_for_two(rt: HostRuntime) {
     let mut buffer = [0xEE; 29];
     each_refused(
         &rt,
@@ -89,7 +89,6 @@ fn room_for_two(rt: HostRuntime) -> Result<(), Fail> {
         ],
     );
     filled(&rt, &buffer, &[]);
-    Ok(())
 }
 
 // One step more than a bench has room for: none is run.

@@ -37,7 +37,7 @@ fn rewrites(
 }
 
 #[test]
-fn exchange(rt: HostRuntime) -> Result<(), Fail> {
+fn exchange(rt: HostRuntime) {
     writes(
         &rt,
         &[
@@ -50,7 +50,6 @@ fn exchange(rt: HostRuntime) -> Result<(), Fail> {
         Ok(18),
         b"\x01\x0B\x06\x01\x06\x07\x01\x07\x0B\x08\x07\x00\x00\x00\xC7\x0F\x00\x00",
     );
-    Ok(())
 }
 
 #[test]
@@ -63,7 +62,7 @@ fn bytes_to_spare(rt: HostRuntime) {
 
 // Range and turn come before room.
 #[test]
-fn bad_steps(rt: HostRuntime) -> Result<(), Fail> {
+fn bad_steps(rt: HostRuntime) {
     let range: &[Step] = &[
         step!(copy 1 2),
         step!(copy 3 4),
@@ -80,7 +79,6 @@ fn bad_steps(rt: HostRuntime) -> Result<(), Fail> {
     ];
     writes(&rt, turn, &mut [0xEE; 64], Err(Refusal::OutOfTurn), &[]);
     writes(&rt, turn, &mut [0xEE; 9], Err(Refusal::OutOfTurn), &[]);
-    Ok(())
 }
 
 #[test]
