@@ -1,5 +1,5 @@
 -- Arguments: places and sources compared, looked up and in range. Assumes nothing.
-use Rattle.std.specs.Prelude.{◌≡◌, ℕ, Bool, true, false, cond, not, ◌&&◌, ltb, List, [], ◌∷◌, Some, None, Option, ◌==◌, nat_lt}
+use Rattle.std.specs.Prelude.{◌≡◌, ℕ, Bool, true, false, cond, not, ◌&&◌, List, [], ◌∷◌, Some, None, Option, ◌==◌, nat_lt}
 use Rattle.std.specs.List.{AllByRecursion}
 use Rattle.machine.specs.Limits.{registers, local_slots}
 use Rattle.conventions.specs.declared.arguments.Argument.{Argument}
@@ -73,4 +73,4 @@ pub record Arranged (xs : List Argument) (scratch slots : ℕ) : Type 0 where
   pub places : AllByRecursion (λ a. place_in_range slots a.place ≡ true) xs
   pub sources : AllByRecursion (λ a. source_in_range a.source ≡ true) xs
   pub off_scratch : AllByRecursion (λ a. apart_from scratch a ≡ true) xs
-  pub scratch_in_range : ltb scratch registers ≡ true
+  pub scratch_in_range : nat_lt scratch registers ≡ true

@@ -37,4 +37,4 @@ Placed xs σ τ = AllByRecursion (λ a. place_word τ a.place ≡ source_word σ
 pub record Assigned (xs : List Argument) (scratch : ℕ) (σ τ : State) : Type 0 where
   pub placed : Placed xs σ τ
   pub locals : (n : ℕ) → τ.local n ≡ σ.local n
-  pub others : (r : ℕ) → source_at xs (in_register r) ≡ None → (r ≢ scratch) → τ.register r ≡ σ.register r
+  pub others : (r : ℕ) → source_at xs (in_register r) ≡ None → r ≢ scratch → τ.register r ≡ σ.register r

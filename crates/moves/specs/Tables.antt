@@ -1,5 +1,5 @@
 -- What the table of pending moves stands for. Assumes nothing.
-use Rattle.std.specs.Prelude.{◌≡◌, ℕ, ◌+◌, ◌<◌, Bool, false, cond, not, ◌&&◌, List, ◌++◌, length, get_or, is_some, Some, None, Option, ◌==◌, nat_lt, slice_index_or}
+use Rattle.std.specs.Prelude.{◌≡◌, ℕ, ◌+◌, ◌<◌, Bool, false, cond, not, ◌&&◌, List, ◌++◌, length, is_some, Some, None, Option, ◌==◌, nat_lt, slice_index_or}
 use Rattle.machine.specs.Limits.{registers}
 use Rattle.machine.specs.declared.steps.Step.{Step}
 use Rattle.machine.specs.declared.places.OutgoingSlot.{OutgoingSlot}
@@ -16,7 +16,7 @@ use Rattle.moves.specs.declared.pendings.PendingMoves.{PendingMoves}
 
 -- registers past the last name themselves
 abbrev pub table_in : PendingMoves → Table
-table_in p r = cond (nat_lt r registers) (get_or p.moves r (record { from = in_register 0 })).from (in_register r)
+table_in p r = cond (nat_lt r registers) (slice_index_or p.moves r (record { from = in_register 0 })).from (in_register r)
 
 abbrev pub choice_in : CodedChoice → Choice
 choice_in (Take d) = take d.0

@@ -3,10 +3,8 @@ use crate::lists::numbers;
 use crate::plans::{each_planned, planned};
 use crate::shorts::{sources, steps};
 use conventions::boards::Board;
-use conventions::conventions::Convention;
 use conventions::handles::HandleFirst;
 use moves::plans::Plan;
-use std::fmt::Debug;
 use std::test::Fail;
 
 #[test]

@@ -3,7 +3,6 @@ use crate::shorts::{source, sources};
 use conventions::arguments::Source;
 use conventions::lists::ArgumentList;
 use machine::refusals::Refusal;
-use std::fmt::Debug;
 use std::process::Abort;
 use std::test::Fail;
 

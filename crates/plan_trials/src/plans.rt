@@ -11,7 +11,6 @@ use machine::refusals::Refusal;
 use machine::steps::Step;
 use moves::lists::MoveList;
 use moves::plans::{Plan, plan_call};
-use std::fmt::Debug;
 use std::process::Abort;
 use std::test::Fail;
 

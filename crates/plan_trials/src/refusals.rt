@@ -8,7 +8,6 @@ use conventions::boards::Board;
 use conventions::conventions::Convention;
 use conventions::handles::HandleFirst;
 use machine::refusals::Refusal;
-use std::fmt::Debug;
 use std::process::Abort;
 use std::test::Fail;
 

@@ -6,7 +6,6 @@ use bench::benches::Bench;
 use machine::emitters::Emitter;
 use machine::refusals::Refusal;
 use machine::steps::Step;
-use std::fmt::Debug;
 use std::process::Abort;
 use tape::tapes::Tape;
 use tape::whole::check_tape;

@@ -6,7 +6,6 @@ use bench::benches::Bench;
 use machine::emitters::{Emitter, give};
 use machine::refusals::Refusal;
 use machine::steps::Step;
-use std::fmt::Debug;
 use std::process::Abort;
 use std::test::Fail;
 use tape::tapes::Tape;

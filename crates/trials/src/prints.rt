@@ -4,7 +4,6 @@ use bench::origins::Origin;
 use machine::places::{LocalSlot, Register};
 use machine::steps::Step;
 use machine::words::Word;
-use std::fmt::Display;
 use std::process::Abort;
 use std::test::Fail;
 

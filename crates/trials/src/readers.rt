@@ -3,7 +3,6 @@ use crate::steps::step;
 use crate::tapes::TAPE;
 use machine::steps::Step;
 use std::alloc::{AllocError, Global};
-use std::fmt::Debug;
 use std::process::Abort;
 use std::test::Fail;
 use tape::errors::ReadError;

@@ -4,7 +4,6 @@ use crate::tapes::{TAPE, all_nine, filled};
 use machine::emitters::{Emitter, give};
 use machine::refusals::Refusal;
 use machine::steps::Step;
-use std::fmt::Debug;
 use std::process::Abort;
 use std::test::Fail;
 use tape::errors::{ReadError, RewriteError};

@@ -1,5 +1,5 @@
 // What a bench tells of the latest call step.
-ghost use Rattle.std.specs.Prelude.{◌≡◌, ◌<◌};
+ghost use Rattle.std.specs.Prelude.{◌≡◌};
 ghost use Rattle.machine.specs.Limits.{outgoing_slots, registers};
 ghost use Rattle.machine.specs.Words.{Start};
 ghost use Rattle.bench.specs.Benches.{Told, bench_meaning};

@@ -1,5 +1,5 @@
 // Reading one command after another.
-ghost use Rattle.std.specs.Prelude.{◌≡◌, ◌+◌, ◌<◌, length, Err};
+ghost use Rattle.std.specs.Prelude.{◌≡◌, ◌<◌, length, Err};
 ghost use Rattle.tape.specs.Readers.{Asked, Began, Commanded};
 
 use crate::commands::{Command, number};
