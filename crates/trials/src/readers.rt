@@ -189,6 +189,14 @@ fn longest_tape(heap: Global) -> Result<Vec<u8>, AllocError> {
     Ok(tape)
 }
 
+// A tape of no commands is accepted, and reads as no steps.
+#[test]
+fn empty(rt: HostRuntime) -> Result<(), Fail> {
+    assert_eq!(rt; check_tape(&[]), Ok(()));
+    assert_eq!(rt; read_tape(rt.alloc(), &[])?.len(), 0);
+    Ok(())
+}
+
 #[test]
 fn longest(rt: HostRuntime) -> Result<(), Fail> {
     let tape = longest_tape(rt.alloc())?;
