@@ -1,9 +1,9 @@
 -- Giving a list whose walk is not refused, with room for all of it. Assumes nothing.
-use Rattle.std.proofs.Common.{◌≡◌, ℕ, ◌+◌, ◌<◌, ◌≤◌, List, [], ◌∷◌, length, get_or, take, drop, Ok, Err, sym, refl, ap, ◌∙◌, subst, arith, take_all}
+use Rattle.std.proofs.Common.{◌≡◌, ℕ, ◌+◌, ◌<◌, ◌≤◌, List, [], ◌∷◌, length, get_or, take, drop, Ok, Err, Result, sym, refl, ap, ◌∙◌, subst, arith, take_all}
 use Rattle.std.proofs.lemmas.List.{at_drop_more, take_more}
 use Rattle.std.proofs.lemmas.Bool.Decides.{nat_tests}
 use Rattle.machine.specs.Turns.{verdict, walked}
-use Rattle.machine.specs.Emitters.{Gave, Meaning, Ran}
+use Rattle.machine.specs.Emitters.{Did, Gave, Meaning, Ran, Took}
 use Rattle.machine.specs.declared.refusals.Refusal.{Refusal}
 use Rattle.machine.specs.declared.refusals.Refusal.TheVariants.{NoRoom}
 use Rattle.machine.specs.declared.steps.Step.{Step}
@@ -12,8 +12,8 @@ use Rattle.machine.proofs.Runs.{ran_join, ran_none, ran_turn}
 use Rattle.machine.proofs.Walks.{Goes, goes}
 
 -- a step that a walk takes is refused by no emitter with room
-pub not_refused : (p : Step) (ps : List Step) (t u : Turn) (room : ℕ) (f : Refusal) → Goes p ps t u → 0 < room → Err f ≡ verdict p t room → ⊥
-not_refused p ps t u room f go some e = grind (arith, nat_tests, go.in_its_range, go.in_its_turn, e)
+not_refused : (p : Step) (ps : List Step) (t u : Turn) (room : ℕ) → Goes p ps t u → 0 < room → verdict p t room ≡ Ok tt
+not_refused p ps t u room go some = grind (arith, nat_tests, go.in_its_range, go.in_its_turn)
 
 -- the first i of the steps have been given, from a to b, and the others go on
 pub record Giving {E : Type 0} (m : Meaning E) (ps : List Step) (i : ℕ) (a b : E) : Type 0 where
@@ -22,16 +22,25 @@ pub record Giving {E : Type 0} (m : Meaning E) (ps : List Step) (i : ℕ) (a b :
   pub goes_on : walked (drop i ps) (m.turn b) ≡ Ok last
 
 module _ {E : Type 0} (m : Meaning E) (ps : List Step) where
-  pub giving_goes : (i : ℕ) (d : Step) (a b : E) (g : Giving m ps i a b) → i < length ps → Goes (get_or ps i d) (drop (i + 1) ps) (m.turn b) g.last
+  giving_goes : (i : ℕ) (d : Step) (a b : E) (g : Giving m ps i a b) → i < length ps → Goes (get_or ps i d) (drop (i + 1) ps) (m.turn b) g.last
   giving_goes i d a b g h =
       goes (get_or ps i d) (drop (i + 1) ps) (m.turn b) g.last (sym (at_drop_more (λ qs. walked qs (m.turn b)) ps i d h) ∙ g.goes_on)
 
-  pub giving_more : (i : ℕ) (d : Step) (a b c : E) → Giving m ps i a b → i < length ps → Ran m (get_or ps i d ∷ []) b c → Giving m ps (i + 1) a c
-  giving_more i d a b c g h one = record {
-    ran = subst (λ qs. Ran m qs a c) (sym (take_more ps i d h)) (ran_join m (take i ps) (get_or ps i d ∷ []) a b c g.ran one);
-    last = g.last;
-    goes_on = ap (walked (drop (i + 1) ps)) (ran_turn m (get_or ps i d) b c one) ∙ (giving_goes i d a b g h).rest;
-  }
+  -- the next step is taken where there is room
+  pub giving_takes : (i : ℕ) (d : Step) (r : Result (Unit {0}) Refusal) (a b c : E) → Giving m ps i a b → i < length ps → 0 < m.room b → Took m (get_or ps i d) r b c → r ≡ Ok tt
+  giving_takes i d r a b c g h some took =
+      took.answer ∙ not_refused (get_or ps i d) (drop (i + 1) ps) (m.turn b) g.last (m.room b) (giving_goes i d a b g h) some
+
+  pub giving_more : (i : ℕ) (d : Step) (r : Result (Unit {0}) Refusal) (a b c : E) → Giving m ps i a b → i < length ps → 0 < m.room b → Took m (get_or ps i d) r b c → Giving m ps (i + 1) a c × (m.room b ≤ m.room c + 1)
+  giving_more i d r a b c g h some took =
+      let one : Ran m (get_or ps i d ∷ []) b c = subst (λ r'. Did m (get_or ps i d ∷ []) r' b c) (giving_takes i d r a b c g h some took) took.did in (
+        record {
+          ran = subst (λ qs. Ran m qs a c) (sym (take_more ps i d h)) (ran_join m (take i ps) (get_or ps i d ∷ []) a b c g.ran one);
+          last = g.last;
+          goes_on = ap (walked (drop (i + 1) ps)) (ran_turn m (get_or ps i d) b c one) ∙ (giving_goes i d a b g h).rest;
+        },
+        one.room_left,
+      )
 
   pub giving_all : (i : ℕ) (a b : E) → Giving m ps i a b → length ps ≤ i → Ran m ps a b
   giving_all i a b g h = subst (λ qs. Ran m qs a b) (take_all i ps h) g.ran

@@ -2,6 +2,7 @@ pub mod Limits
 pub mod Places
 pub mod Refusals
 pub mod Words
+pub mod Steps
 pub mod States
 pub mod Turns
 pub mod Effects

@@ -1,5 +1,6 @@
 -- The number of each refusal. Assumes nothing.
-use Rattle.std.specs.Prelude.{ℕ}
+use Rattle.std.specs.Prelude.{ℕ, List, ◌++◌, codes}
+use Rattle.std.specs.Fmt.{decimal}
 use Rattle.machine.specs.declared.refusals.Refusal.{Refusal}
 use Rattle.machine.specs.declared.refusals.Refusal.TheVariants.{ListFull, NoSuchRegister, NoSuchLocalSlot, NotUsable, WrongCells, NotBare, TooManyArguments, CallsAtLimit, OwnStepsAtLimit, NoRoom, UnknownCommand, CutShort, OutOfRange, OutOfTurn, TooLong}
 
@@ -19,3 +20,7 @@ number CutShort = 42
 number OutOfRange = 43
 number OutOfTurn = 44
 number TooLong = 45
+
+-- what a refusal prints
+abbrev pub refusal_text : Refusal → List ℕ
+refusal_text f = codes "refused: " ++ decimal (number f)

@@ -25,15 +25,12 @@ pub trait Emitter {
 pub fn give<E: Emitter>(emitter: &mut E, steps: &[Step]) -> Result<(), Refusal>
     ensures { Gave E.meaning steps.now result emitter.old emitter.new }
 {
-    let _ = emitter.turn().after_all(steps)?;
+    emitter.turn().after_all(steps)?;
     if emitter.room() < steps.len() {
         return Err(Refusal::NoRoom);
     }
     for step in steps {
-        match emitter.take(*step) {
-            Ok(()) => {}
-            Err(_) => unreachable!(),
-        }
+        emitter.take(*step).unwrap();
     }
     Ok(())
 }

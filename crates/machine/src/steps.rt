@@ -1,5 +1,6 @@
 // The nine steps.
-ghost use Rattle.std.specs.Prelude.{◌≡◌};
+ghost use Rattle.std.specs.Prelude.{◌≡◌, Some};
+ghost use Rattle.machine.specs.Steps.{step_text};
 ghost use Rattle.machine.specs.Turns.{in_range};
 
 use crate::limits::*;
@@ -45,6 +46,8 @@ impl Step {
 
 // The step's name, then its operands in the order in which a tape has them; a call's lost set is left out.
 impl fmt::Display for Step {
+    ghost output = { λ p. Some (step_text p) };
+
     fn fmt<W: fmt::Write>(&self, f: &mut fmt::Formatter<W>) -> fmt::Result {
         match *self {
             Step::Copy {

@@ -1,4 +1,7 @@
 // A word: a 64-bit number, or unknown.
+ghost use Rattle.std.specs.Prelude.{Some};
+ghost use Rattle.machine.specs.Words.{word_text};
+
 use std::fmt;
 
 #[derive(Clone, Copy, PartialEq, Eq, Debug)]
@@ -8,6 +11,8 @@ pub enum Word {
 }
 
 impl fmt::Display for Word {
+    ghost output = { λ w. Some (word_text w) };
+
     fn fmt<W: fmt::Write>(&self, f: &mut fmt::Formatter<W>) -> fmt::Result {
         match *self {
             Word::Unknown => write!(f, "?"),

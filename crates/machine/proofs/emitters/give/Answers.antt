@@ -1,6 +1,6 @@
-use Rattle.std.proofs.Common.{arith}
+use Rattle.std.proofs.Common.{refl, arith}
 use Rattle.std.proofs.lemmas.Result.{err_from_is_err_and}
-use Rattle.machine.proofs.Giving.{giving_none, giving_goes, giving_more, gave_all, gave_no_room, gave_refused, not_refused}
+use Rattle.machine.proofs.Giving.{giving_none, giving_more, giving_takes, gave_all, gave_no_room, gave_refused}
 use Rattle.machine.proofs.emitters.give.Goals as goal
 
 pub returns-in_err-after_all : goal.returns-in_err-after_all
@@ -16,15 +16,15 @@ pub loop-step-init : goal.loop-step-init
 loop-step-init g c =
     (giving_none g.E.Emitter.meaning c.args.steps.now _ _ c.turn.ensures _ c.in_ok-after_all.ensures, omega arith)
 
-pub unreachable-requires : goal.unreachable-requires
-unreachable-requires g c =
-    let goes = giving_goes g.E.Emitter.meaning c.args.steps.now _ _ _ _ c.loop-step.invariant.0 c.loop-step-test.true in
-    not_refused _ _ _ _ _ c.in-Err.field-0 goes (omega arith) c.in-Err.ensures.answer
+pub unwrap-requires : goal.unwrap-requires
+unwrap-requires g c =
+    let taken = giving_takes g.E.Emitter.meaning c.args.steps.now _ _ _ _ _ _ c.loop-step.invariant.0 c.loop-step-test.true (omega arith) c.take.ensures in
+    rw taken refl
 
 pub loop-step-preserved : goal.loop-step-preserved
 loop-step-preserved g c =
-    let ran = c.in-Ok.ensures.did in
-    (giving_more g.E.Emitter.meaning c.args.steps.now _ _ _ _ _ c.loop-step.invariant.0 c.loop-step-test.true ran, omega (arith, ran.room_left))
+    let more = giving_more g.E.Emitter.meaning c.args.steps.now _ _ _ _ _ _ c.loop-step.invariant.0 c.loop-step-test.true (omega arith) c.take.ensures in
+    (more.0, omega (arith, more.1))
 
 pub returns : goal.returns
 returns g c =
