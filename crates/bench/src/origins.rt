@@ -1,5 +1,6 @@
 // Origins: where a word came from.
-ghost use Rattle.bench.specs.Origins.{origin_stands};
+ghost use Rattle.std.specs.Prelude.{Some};
+ghost use Rattle.bench.specs.Origins.{origin_stands, origin_text};
 
 use crate::kinds::WordKind;
 use machine::places::{LocalSlot, Register};
@@ -27,6 +28,8 @@ impl WordKind for Origin {
 }
 
 impl fmt::Display for Origin {
+    ghost output = { λ o. Some (origin_text o) };
+
     fn fmt<W: fmt::Write>(&self, f: &mut fmt::Formatter<W>) -> fmt::Result {
         match *self {
             Self::Unknown => write!(f, "?"),

@@ -1,28 +1,27 @@
 // The moves of calls on the three boards, with their counts.
-use crate::answers::accepted;
 use crate::calls::{exchange, nine_mixed, plan};
 use conventions::arguments::Source;
 use conventions::boards::Board;
 use moves::lists::MoveList;
 use moves::plans::Plan;
 
-pub(crate) fn show_boards(rt: &HostRuntime) -> anyhow::Result<()> {
+pub(crate) fn show_boards(rt: &impl Print) -> anyhow::Result<()> {
     show_board(rt, "System V AMD64", &Board::sysv())?;
     show_board(rt, "AAPCS64", &Board::aapcs64())?;
     show_board(rt, "RISC-V LP64", &Board::riscv())
 }
 
-fn show_board(rt: &HostRuntime, name: &str, board: &Board) -> anyhow::Result<()> {
+fn show_board(rt: &impl Print, name: &str, board: &Board) -> anyhow::Result<()> {
     println!(rt; "\n{name}:")?;
-    let two = accepted(rt, exchange(board))?;
+    let two = exchange(board)?;
     show_moves(rt, "exchange", board, &two)?;
-    let nine = accepted(rt, nine_mixed(board))?;
+    let nine = nine_mixed(board)?;
     show_moves(rt, "nine mixed", board, &nine)
 }
 
 // The moves of a call with the sources given, and its counts.
 fn show_moves(
-    rt: &HostRuntime,
+    rt: &impl Print,
     name: &str,
     board: &Board,
     sources: &[Source],
@@ -33,7 +32,7 @@ fn show_moves(
         needed,
         rings,
         values,
-    } = accepted(rt, plan(board, sources, &mut moves))?;
+    } = plan(board, sources, &mut moves)?;
     print!(rt; "  {name}")?;
     if bytes != 0 {
         print!(rt; ", {bytes} bytes")?;

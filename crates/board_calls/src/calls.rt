@@ -5,7 +5,6 @@ ghost use Rattle.moves.specs.Lists.{moves_in};
 ghost use Rattle.moves.specs.Plans.{Accepted};
 ghost use Rattle.board_calls.specs.Calls.{ExchangeCall, Exchanged, argument_register, call_steps};
 
-use crate::answers::accepted;
 use conventions::arguments::{Place, Source};
 use conventions::conventions::Convention;
 use conventions::lists::ArgumentList;
@@ -102,14 +101,14 @@ fn call_steps(
 
 // The steps of a call of the routine with the first two arguments exchanged.
 pub(crate) fn exchange_steps<C: Convention>(
-    rt: &HostRuntime,
+    heap: Global,
     convention: &C,
     routine: u32,
 ) -> anyhow::Result<Vec<Step>>
     ensures { IfOk result (λ v. ExchangeCall (C.answers convention.now) routine v.items) }
 {
-    let sources = accepted(rt, exchange(convention))?;
+    let sources = exchange(convention)?;
     let mut moves = MoveList::new();
-    let plan = accepted(rt, plan(convention, &sources, &mut moves))?;
-    Ok(call_steps(rt.alloc(), plan, &moves, routine, convention.lost())?)
+    let plan = plan(convention, &sources, &mut moves)?;
+    Ok(call_steps(heap, plan, &moves, routine, convention.lost())?)
 }

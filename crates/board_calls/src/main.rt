@@ -2,7 +2,6 @@
 // console are shown, and then the moves of two calls for each board.
 #![tactic(auto)]
 
-mod answers;
 mod boards;
 mod calls;
 
@@ -16,9 +15,9 @@ fn main(rt: HostRuntime) -> anyhow::Result<()> {
     show(&rt)
 }
 
-fn show(rt: &HostRuntime) -> anyhow::Result<()> {
+fn show(rt: &(impl Print + AllocGlobal)) -> anyhow::Result<()> {
     print!(rt; "The call of routine {ROUTINE} with two exchanged on System V AMD64:")?;
-    for step in &exchange_steps(rt, &Board::sysv(), ROUTINE)? {
+    for step in &exchange_steps(rt.alloc(), &Board::sysv(), ROUTINE)? {
         print!(rt; " {step};")?;
     }
     println!(rt;

@@ -69,7 +69,7 @@ module _ (usable : ℕ) where
 
 -- the arguments by their numbers
 module _ (a : Answers) where
-  length-hidden : (n : ℕ) → length (hidden_arguments a n) ≡ n
+  pub length-hidden : (n : ℕ) → length (hidden_arguments a n) ≡ n
   unfolding hidden_arguments
   length-hidden zero = refl
   length-hidden (suc n) = let more = length-hidden n in simp length_push (omega arith)
@@ -85,7 +85,7 @@ module _ (a : Answers) where
         | inr more ↦ let same : i ≡ n = omega arith in rw same (get_or_at (hidden_arguments a n) last [] some_argument n front)
       ]
 
-  length-given : (k : ℕ) (ss : List Source) → length (given_arguments a k ss) ≡ length ss
+  pub length-given : (k : ℕ) (ss : List Source) → length (given_arguments a k ss) ≡ length ss
   length-given k [] = refl
   length-given k (s ∷ ss) = ap suc (length-given (k + 1) ss)
 

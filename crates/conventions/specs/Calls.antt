@@ -1,5 +1,7 @@
 -- The arguments of a call, and when a call is refused. Assumes nothing.
-use Rattle.std.specs.Prelude.{◌≡◌, ℕ, zero, suc, ◌+◌, ◌-◌, ◌*◌, ◌/◌, ◌≤◌, Bool, true, cond, ◌&&◌, List, [], ◌∷◌, ◌++◌, length, take, Ok, Err, Result, nat_le}
+use Rattle.std.specs.Prelude.{◌≡◌, ℕ, zero, suc, ◌+◌, ◌-◌, ◌*◌, ◌/◌, ◌≤◌, Bool, true, cond, List, [], ◌∷◌, ◌++◌, length, Ok, Err, Result, nat_le}
+use Rattle.std.specs.List.{list_all}
+use Rattle.bounded_lists.specs.Lists.{items}
 use Rattle.machine.specs.Limits.{outgoing_slots, reserve_unit, slot_bytes}
 use Rattle.machine.specs.Places.{holds}
 use Rattle.machine.specs.declared.refusals.Refusal.{Refusal}
@@ -32,8 +34,7 @@ source_usable usable (Held r) = holds usable r.0
 source_usable usable (Local n) = true
 
 abbrev pub all_usable : ℕ → List Source → Bool
-all_usable usable [] = true
-all_usable usable (s ∷ ss) = source_usable usable s && all_usable usable ss
+all_usable usable ss = list_all (source_usable usable) ss
 
 -- a call is refused for too many arguments, then for a listed register that is not usable
 abbrev pub call_verdict : Answers → List Source → Result (Unit {0}) Refusal
@@ -45,7 +46,7 @@ abbrev pub bytes_for : ℕ → ℕ
 bytes_for slots = reserve_unit * ((slot_bytes * slots + (reserve_unit - 1)) / reserve_unit)
 
 abbrev pub arguments_in : Arguments → List Argument
-arguments_in t = take t.count t.entries
+arguments_in t = items t.entries
 
 -- the arguments of a call that is not refused: they can be put into their places
 pub record Filled (a : Answers) (ss : List Source) (t : Arguments) : Type 0 where

@@ -1,5 +1,6 @@
 -- The sources that an argument list holds, and when it refuses one more. Assumes nothing.
-use Rattle.std.specs.Prelude.{◌≡◌, ℕ, cond, List, [], ◌∷◌, ◌++◌, length, take, Ok, Err, Result, nat_lt}
+use Rattle.std.specs.Prelude.{◌≡◌, ℕ, cond, List, [], ◌∷◌, ◌++◌, length, Ok, Err, Result, nat_lt}
+use Rattle.bounded_lists.specs.Lists.{items}
 use Rattle.machine.specs.Limits.{local_slots, registers}
 use Rattle.machine.specs.declared.refusals.Refusal.{Refusal}
 use Rattle.machine.specs.declared.refusals.Refusal.TheVariants.{ListFull, NoSuchLocalSlot, NoSuchRegister}
@@ -9,7 +10,7 @@ use Rattle.conventions.specs.declared.arguments.Source.TheVariants.{Number, Regi
 use Rattle.conventions.specs.declared.lists.ArgumentList.{ArgumentList}
 
 abbrev pub listed : ArgumentList → List Source
-listed l = take l.count l.sources
+listed l = items l.sources
 
 -- a register above the last and a local slot above the last are refused
 abbrev pub source_verdict : Source → Result (Unit {0}) Refusal

@@ -1,5 +1,6 @@
 -- Tables of argument registers: what a table tells, and the tests that make it lawful. Assumes nothing.
-use Rattle.std.specs.Prelude.{ℕ, Bool, true, false, not, ◌&&◌, ◌||◌, List, [], ◌∷◌, map, take, ◌==◌}
+use Rattle.std.specs.Prelude.{ℕ, Bool, true, not, ◌&&◌, List, [], ◌∷◌, map, ◌==◌}
+use Rattle.std.specs.List.{list_all, list_any}
 use Rattle.machine.specs.Places.{holds}
 use Rattle.machine.specs.declared.places.Register.{Register}
 
@@ -7,13 +8,12 @@ use Rattle.machine.specs.declared.places.Register.{Register}
 abbrev pub argument_registers : ℕ
 argument_registers = 8
 
--- the numbers of the first n registers
-abbrev pub numbers : ℕ → List Register → List ℕ
-numbers n rs = map (λ r. r.0) (take n rs)
+-- the numbers of the registers
+abbrev pub numbers : List Register → List ℕ
+numbers rs = map (λ r. r.0) rs
 
 abbrev pub has : ℕ → List ℕ → Bool
-has r [] = false
-has r (x ∷ rs) = r == x || has r rs
+has r rs = list_any (λ x. r == x) rs
 
 -- no number stands twice
 abbrev pub distinct : List ℕ → Bool
@@ -22,5 +22,4 @@ distinct (r ∷ rs) = not (has r rs) && distinct rs
 
 -- the set holds each register
 abbrev pub all_held : ℕ → List ℕ → Bool
-all_held set [] = true
-all_held set (r ∷ rs) = holds set r && all_held set rs
+all_held set rs = list_all (holds set) rs

@@ -1,43 +1,32 @@
 -- Any table of argument registers makes a lawful convention. Assumes nothing.
-use Rattle.std.specs.Prelude.{◌≡◌, ℕ, zero, suc, ◌-◌, ◌<◌, ◌≤◌, true, false, not, List, [], ◌∷◌, length, take, ◌==◌, ◌≢◌, slice_index, slice_index_or, refl}
-use Rattle.std.proofs.Common.{sym, ap, ◌∙◌, inl, inr, arith}
-use Rattle.std.proofs.lemmas.List.{get_or-map, get_or-take, length-map, length-take-le}
-use Rattle.std.proofs.lemmas.Bool.{and_parts, cases_lt, not-true, or_parts, eqb-false}
+use Rattle.std.specs.Prelude.{◌≡◌, ℕ, zero, suc, ◌-◌, ◌<◌, true, false, not, List, [], ◌∷◌, length, ◌==◌, ◌≢◌, slice_index, refl}
+use Rattle.std.proofs.Common.{sym, ap, ◌∙◌, inl, inr, arith, eq-eqb}
+use Rattle.std.proofs.lemmas.List.Folds.{list_any_at}
+use Rattle.std.proofs.lemmas.List.Sums.{AllPass-from_list_all}
+use Rattle.std.proofs.lemmas.Bool.{and_parts, cases_lt, not-true}
 use Rattle.std.proofs.lemmas.Bool.Decides.{nat_tests}
 use Rattle.machine.specs.Limits.{registers}
 use Rattle.machine.specs.Places.{holds}
-use Rattle.machine.specs.declared.places.Register.{Register}
 use Rattle.conventions.specs.Boards.{in_order, registers_first}
 use Rattle.conventions.specs.Conventions.{Lawful, place_lawful, place_of}
-use Rattle.conventions.specs.Tables.{all_held, distinct, has, numbers}
+use Rattle.conventions.specs.Tables.{all_held, distinct, has}
 
-pub length-numbers : (n : ℕ) (rs : List Register) → n ≤ length rs → length (numbers n rs) ≡ n
-length-numbers n rs whole = length-map (take n rs) (λ r. r.0) ∙ length-take-le n rs whole
-
-pub get_or-numbers : (n : ℕ) (rs : List Register) (i : ℕ) → n ≤ length rs → i < n → slice_index (numbers n rs) i ≡ (slice_index_or rs i (record { 0 = 0 })).0
-get_or-numbers n rs i whole below =
-    let count = length-take-le n rs whole in
-    get_or-map (λ (r : Register). r.0) (take n rs) i (record { 0 = 0 }) 0 (omega arith) ∙ ap (λ r. r.0) (get_or-take n rs i (record { 0 = 0 }) below)
-
-absent_at : (r : ℕ) (rs : List ℕ) (j : ℕ) → has r rs ≡ false → j < length rs → r ≢ slice_index rs j
-absent_at r [] j none below same = omega arith
-absent_at r (x ∷ rs) zero none below same = eqb-false r x (or_parts (r == x) (has r rs) none).0 same
-absent_at r (x ∷ rs) (suc j) none below same = absent_at r rs j (or_parts (r == x) (has r rs) none).1 (omega arith) same
+first_apart : (r : ℕ) (rs : List ℕ) (j : ℕ) → distinct (r ∷ rs) ≡ true → j < length rs → r ≢ slice_index rs j
+first_apart r rs j apart below same =
+    let none = not-true (has r rs) (and_parts (not (has r rs)) (distinct rs) apart).0 in
+    let found = list_any_at (λ x. r == x) rs j 0 below (eq-eqb r (slice_index rs j) same) in
+    cc (none, found)
 
 distinct_at : (rs : List ℕ) (i j : ℕ) → distinct rs ≡ true → i < length rs → j < length rs → slice_index rs i ≡ slice_index rs j → i ≡ j
 distinct_at [] i j apart i-below j-below same = absurd (omega arith)
 distinct_at (r ∷ rs) zero zero apart i-below j-below same = refl
-distinct_at (r ∷ rs) zero (suc j) apart i-below j-below same =
-    absurd (absent_at r rs j (not-true (has r rs) (and_parts (not (has r rs)) (distinct rs) apart).0) (omega arith) same)
-distinct_at (r ∷ rs) (suc i) zero apart i-below j-below same =
-    absurd (absent_at r rs i (not-true (has r rs) (and_parts (not (has r rs)) (distinct rs) apart).0) (omega arith) (sym same))
+distinct_at (r ∷ rs) zero (suc j) apart i-below j-below same = absurd (first_apart r rs j apart (omega arith) same)
+distinct_at (r ∷ rs) (suc i) zero apart i-below j-below same = absurd (first_apart r rs i apart (omega arith) (sym same))
 distinct_at (r ∷ rs) (suc i) (suc j) apart i-below j-below same =
     ap suc (distinct_at rs i j (and_parts (not (has r rs)) (distinct rs) apart).1 (omega arith) (omega arith) same)
 
 held_at : (usable : ℕ) (rs : List ℕ) (i : ℕ) → all_held usable rs ≡ true → i < length rs → holds usable (slice_index rs i) ≡ true
-held_at usable [] i held below = absurd (omega arith)
-held_at usable (r ∷ rs) zero held below = (and_parts (holds usable r) (all_held usable rs) held).0
-held_at usable (r ∷ rs) (suc i) held below = held_at usable rs i (and_parts (holds usable r) (all_held usable rs) held).1 (omega arith)
+held_at usable rs i held = AllPass-from_list_all (holds usable) rs held i 0
 
 module _
     (rs : List ℕ) (scratch usable lost : ℕ) (different : distinct rs ≡ true) (held : all_held usable rs ≡ true)

@@ -1,9 +1,7 @@
 // The arguments of a call, each with its place and its source.
-ghost use Rattle.std.specs.Prelude.{◌≡◌, ◌≤◌, length};
-ghost use Rattle.conventions.specs.Conventions.{argument_limit};
-
 use crate::arguments::Argument;
-use crate::limits::ARGUMENTS;
+use crate::limits::ARGUMENTS_LENGTH;
+use bounded_lists::lists::BoundedList;
 
 mod bytes;
 pub mod fills;
@@ -12,9 +10,5 @@ pub use bytes::bytes_for;
 
 #[derive(Clone, Copy)]
 pub struct Arguments {
-    entries: [Argument; ARGUMENTS as usize],
-    // how many of the entries are arguments
-    count: u8,
-    ghost few: { count ≤ argument_limit },
-    ghost whole: { length entries ≡ argument_limit },
+    entries: BoundedList<Argument, ARGUMENTS_LENGTH>,
 }

@@ -2,3 +2,6 @@
 
 // a call has at most this many arguments, hidden and given
 pub const ARGUMENTS: u8 = 32;
+
+// that many, as the length of a list
+pub const ARGUMENTS_LENGTH: usize = ARGUMENTS as usize;

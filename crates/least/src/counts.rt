@@ -10,7 +10,7 @@ fn at_home(argument: Argument) -> bool
     ensures { result ≡ at_home argument }
 {
     match (argument.place, argument.source) {
-        (Place::Register(place), Source::Register(source)) => place.0 == source.0,
+        (Place::Register(place), Source::Register(source)) => place == source,
         _ => false,
     }
 }
@@ -20,6 +20,7 @@ pub fn count_needed(arguments: &[Argument]) -> usize
     ensures { result ≡ needed arguments.now }
 {
     let mut count: usize = 0;
+    // the entries with their index, as the project asks for here
     for i in 0..arguments.len() {
         if !at_home(arguments[i]) {
             count += 1;

@@ -4,7 +4,7 @@ use Rattle.std.proofs.lemmas.List.{at_drop_more}
 use Rattle.std.proofs.lemmas.Bool.{cases_Bool}
 use Rattle.machine.specs.States.{State}
 use Rattle.machine.specs.Effects.{effect, run}
-use Rattle.machine.specs.Turns.{arrives, in_range, in_turn, moved, same_turn, turn_after, walked}
+use Rattle.machine.specs.Turns.{in_range, in_turn, moved, turn_after, walked}
 use Rattle.machine.proofs.Runs.{effect_turn}
 use Rattle.machine.specs.declared.refusals.Refusal.{Refusal}
 use Rattle.machine.specs.declared.steps.Step.{Step}
@@ -51,29 +51,3 @@ walked_append (p ∷ ps) qs t u e =
     let go = goes p ps t u e in
     let first : moved p t ≡ Ok (turn_after p t) = grind (arith, go.in_its_range, go.in_its_turn) in
     walked_cons p (ps ++ qs) t (turn_after p t) first ∙ walked_append ps qs (turn_after p t) u go.rest
-
-same_turns : (t u : Turn) → same_turn t u ≡ true → t ≡ u
-same_turns Bare Bare e = refl
-same_turns Bare (Reserved b) e = absurd (grind (arith, e))
-same_turns Bare (Called b) e = absurd (grind (arith, e))
-same_turns (Reserved a) Bare e = absurd (grind (arith, e))
-same_turns (Reserved a) (Reserved b) e = ap (λ n. Reserved n) (grind (arith, e))
-same_turns (Reserved a) (Called b) e = absurd (grind (arith, e))
-same_turns (Called a) Bare e = absurd (grind (arith, e))
-same_turns (Called a) (Reserved b) e = absurd (grind (arith, e))
-same_turns (Called a) (Called b) e = ap (λ n. Called n) (grind (arith, e))
-
-same_turn_refl : (t : Turn) → same_turn t t ≡ true
-same_turn_refl Bare = refl
-same_turn_refl (Reserved b) = grind arith
-same_turn_refl (Called b) = grind arith
-
-arrived : (r : Result Turn Refusal) (t : Turn) → elim r [ Ok u ↦ same_turn u t | Err f ↦ false ] ≡ true → r ≡ Ok t
-arrived (Ok u) t e = ap (λ v. Ok v) (same_turns u t e)
-arrived (Err f) t e = absurd (grind (arith, e))
-
-pub arrives_walked : (ps : List Step) (t : Turn) → arrives ps t ≡ true → walked ps Bare ≡ Ok t
-arrives_walked ps t e = arrived (walked ps Bare) t e
-
-pub walked_arrives : (ps : List Step) (t : Turn) → walked ps Bare ≡ Ok t → arrives ps t ≡ true
-walked_arrives ps t e = ap (λ (r : Result Turn Refusal). elim r [ Ok u ↦ same_turn u t | Err f ↦ false ]) e ∙ same_turn_refl t

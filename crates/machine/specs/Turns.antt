@@ -98,18 +98,3 @@ moved p t = judged p t (Ok (turn_after p t))
 abbrev pub walked : List Step → Turn → Result Turn Refusal
 walked [] t = Ok t
 walked (p ∷ ps) t = elim (moved p t) [ Ok u ↦ walked ps u | Err f ↦ Err f ]
-
-abbrev pub same_turn : Turn → Turn → Bool
-same_turn Bare Bare = true
-same_turn Bare (Reserved b) = false
-same_turn Bare (Called b) = false
-same_turn (Reserved a) Bare = false
-same_turn (Reserved a) (Reserved b) = a == b
-same_turn (Reserved a) (Called b) = false
-same_turn (Called a) Bare = false
-same_turn (Called a) (Reserved b) = false
-same_turn (Called a) (Called b) = a == b
-
--- the steps walk from bare to this turn
-abbrev pub arrives : List Step → Turn → Bool
-arrives ps t = elim (walked ps Bare) [ Ok u ↦ same_turn u t | Err f ↦ false ]

@@ -1,4 +1,4 @@
-// A word: a 64-bit number, or unknown.
+// A word: a 64-bit number, or unknown. An enum of its own and no `Option`: an unknown word is there, and it prints as itself.
 ghost use Rattle.std.specs.Prelude.{Some};
 ghost use Rattle.machine.specs.Words.{word_text};
 

@@ -1,5 +1,8 @@
 -- The entries of the table of pending moves, read and written. Assumes nothing.
-use Rattle.std.proofs.Common.{◌≡◌, ℕ, ◌+◌, ◌<◌, ◌≤◌, cond, ltb, List, length, get_or, set, sym, ap, ◌∙◌, inl, inr, arith}
+use Rattle.std.proofs.Common.{◌≡◌, ℕ, zero, suc, ◌+◌, ◌<◌, ◌≤◌, cond, ltb, List, length, get_or, set, sym, ap, ◌∙◌, subst, inl, inr, arith}
+use denote.Param.Members.{Mut}
+use Rattle.std.specs.Fn.{Called}
+use Rattle.std.specs.Array.{IsFromFnResult, IsFromFnResultFrom}
 use Rattle.std.proofs.lemmas.List.{get_or-set_other, get_or-set_same}
 use Rattle.std.proofs.lemmas.Bool.{cases_eq, cases_lt, cond-false, cond-true, le-ltb, lt-ltb}
 use Rattle.std.proofs.lemmas.Bool.Decides.{nat_tests}
@@ -20,6 +23,35 @@ written ms i p whole h =
 pub unwritten : (ms : List PendingMove) (i e : ℕ) (p : Place) → (e ≡ i → ⊥) → table_of (set ms i (record { from = p })) e ≡ table_of ms e
 unwritten ms i e p other =
     ap (λ (m : PendingMove). cond (ltb e registers) m.from (in_register e)) (get_or-set_other ms i e (record { from = p }) (record { from = in_register 0 }) other)
+
+-- an array made by calls that change nothing and give what u says
+module _ {F B : Type 0} {g : Mut F (ℕ × Unit {0}) B} (f : F) (u : ℕ → B) (m : ℕ) (calls : (x : ℕ) (y : B) (q : F) → x < m → Called g f (x, tt) y q → (q ≡ f) × (y ≡ u x)) where
+  made_from : (ys : List B) (i n k : ℕ) (e : B) → IsFromFnResultFrom g f ys i n → i + n ≤ m → k < n → get_or ys (i + k) e ≡ u (i + k)
+  made_from ys i zero k e made few h = absurd (omega arith)
+  made_from ys i (suc n) zero e made few h =
+      let here : i + 0 ≡ i = omega arith in
+      let is = calls i made.1 made.0 (omega (arith, few)) made.3 in
+      ap (λ j. get_or ys j e) here ∙ made.2.1 e ∙ is.1 ∙ ap u (sym here)
+  made_from ys i (suc n) (suc k) e made few h =
+      let next : i + suc k ≡ (i + 1) + k = omega arith in
+      let is = calls i made.1 made.0 (omega (arith, few)) made.3 in
+      let rest : IsFromFnResultFrom g f ys (i + 1) n = subst (λ q. IsFromFnResultFrom g q ys (i + 1) n) is.0 made.4 in
+      ap (λ j. get_or ys j e) next ∙ made_from ys (i + 1) n k e rest (omega (arith, few)) (omega (arith, h)) ∙ ap u (sym next)
+
+  pub made_at : (ys : List B) (k : ℕ) (e : B) → IsFromFnResult g f ys m → k < m → get_or ys k e ≡ u k
+  made_at ys k e made h =
+      let same : 0 + k ≡ k = omega arith in
+      ap (λ j. get_or ys j e) (sym same) ∙ made_from ys 0 m k e made.each (omega arith) h ∙ ap u same
+
+-- entries that were made one by one
+pub table_made : (ms : List PendingMove) (u : Table) → ((e : ℕ) → e < registers → get_or ms e (record { from = in_register 0 }) ≡ record { from = u e }) → ((e : ℕ) → registers ≤ e → u e ≡ in_register e) → table_of ms ≡ u
+table_made ms u made past = λ j e. at e j
+  where
+    at : (e : ℕ) → table_of ms e ≡ u e
+    at e = elim (cases_lt e registers) [
+      | inl below ↦ cond-true (ltb e registers) _ _ (lt-ltb e registers below) ∙ ap (λ (m : PendingMove). m.from) (made e below)
+      | inr above ↦ cond-false (ltb e registers) _ _ (le-ltb e registers above) ∙ sym (past e above)
+    ]
 
 -- the entries below i are those of u, and the others still those of t
 abbrev pub Rewriting : Table → Table → ℕ → Table → Type 0

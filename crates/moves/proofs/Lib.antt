@@ -1,9 +1,9 @@
 pub mod Adding
 pub mod Carrying
-pub mod Deciding
 pub mod Entries
 pub mod Filling
 pub mod Joining
 pub mod Marking
 pub mod Planning
+pub mod Searching
 pub mod Spreading

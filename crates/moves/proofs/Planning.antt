@@ -1,7 +1,6 @@
 -- The plan of a call that is not refused. Assumes nothing.
 use Rattle.std.proofs.Common.{◌≡◌, ℕ, ◌≤◌, true, List, length, sym, ap, ◌∙◌, subst, arith}
 use mathlib.Core.Path.{transport}
-use Rattle.std.proofs.lemmas.List.{length-take}
 use Rattle.std.specs.List.{AllByRecursion}
 use Rattle.machine.specs.Limits.{outgoing_slots}
 use Rattle.conventions.specs.Arguments.{place_in_range}
@@ -10,6 +9,7 @@ use Rattle.conventions.specs.Conventions.{Answers, argument_limit}
 use Rattle.conventions.specs.declared.arguments.Argument.{Argument}
 use Rattle.conventions.specs.declared.arguments.Source.{Source}
 use Rattle.conventions.specs.declared.calls.Arguments.{Arguments}
+use Rattle.conventions.proofs.Listing.{arguments_few}
 use Rattle.least.specs.Counts.{needed}
 use Rattle.order.specs.Best.{Best}
 use Rattle.order.specs.Order.{opened, order_of, values_spread}
@@ -33,7 +33,7 @@ module _ (a : Answers) (ss : List Source) (t : Arguments) (filled : Filled a ss 
       (all_placed (arguments_of a ss) a.scratch.0 (a.slots (length ss)) filled.arranged filled.slots_few)
 
   entries_few : length es ≤ argument_limit
-  entries_few = let same = ap length held in omega (arith, length-take t.count t.entries)
+  entries_few = let same = ap length held in omega (arith, arguments_few t)
 
   pub needed_few : needed es ≤ argument_limit
   needed_few = omega (arith, needed_most es, entries_few)

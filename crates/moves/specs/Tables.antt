@@ -11,27 +11,21 @@ use Rattle.order.specs.Indices.{first}
 use Rattle.order.specs.Tables.{Choice, Table, finished, pending, reads, reload, settle, spill, spills, take}
 use Rattle.order.specs.Wants.{Wants, lowest_slot}
 use Rattle.moves.specs.declared.choices.Choice.{Choice as CodedChoice}
-use Rattle.moves.specs.declared.choices.Choice.TheVariants.{Finished, Reload, Spill, Take}
+use Rattle.moves.specs.declared.choices.Choice.TheVariants.{Reload, Spill, Take}
 use Rattle.moves.specs.declared.pendings.PendingMoves.{PendingMoves}
 
 -- registers past the last name themselves
 abbrev pub table_in : PendingMoves → Table
 table_in p r = cond (nat_lt r registers) (slice_index_or p.moves r (record { from = in_register 0 })).from (in_register r)
 
-abbrev pub choice_in : CodedChoice → Choice
-choice_in (Take d) = take d.0
-choice_in (Reload d o) = reload d.0 o.0
-choice_in (Spill d) = spill d.0
-choice_in Finished = finished
+-- what comes next, where none says that nothing is pending
+abbrev pub choice_in : Option CodedChoice → Choice
+choice_in None = finished
+choice_in (Some k) = elim k [ Take d ↦ take d.0 | Reload d o ↦ reload d.0 o.0 | Spill d ↦ spill d.0 ]
 
 -- pending, and held by an outgoing slot
 abbrev pub held : Wants → Table → ℕ → Bool
 held w t d = pending t d && is_some (lowest_slot w (from_register d))
-
--- the lowest register that is held, and the lowest slot that holds it
-abbrev pub LowestHeld : Wants → Table → Option (Register' × OutgoingSlot) → Type 0
-LowestHeld w t None = first (held w t) registers ≡ None
-LowestHeld w t (Some p) = (first (held w t) registers ≡ Some p.0.0) × (lowest_slot w (from_register p.0.0) ≡ Some p.1.0)
 
 -- the register that a pending move reads
 abbrev pub named_register : ℕ → Place → Option ℕ

@@ -1,4 +1,4 @@
-// What comes next where moves between registers are pending.
+// What comes next while moves between registers are pending.
 use machine::places::{OutgoingSlot, Register};
 
 #[derive(Clone, Copy)]
@@ -9,6 +9,4 @@ pub(crate) enum Choice {
     Reload(Register, OutgoingSlot),
     // a ring is opened through the scratch
     Spill(Register),
-    // nothing is pending
-    Finished,
 }

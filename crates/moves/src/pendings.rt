@@ -1,7 +1,4 @@
 // The table of pending moves between registers.
-ghost use Rattle.std.specs.Prelude.{◌≡◌, length};
-ghost use Rattle.machine.specs.Limits.{registers};
-
 use conventions::arguments::Place;
 use machine::limits::REGISTERS;
 
@@ -15,9 +12,9 @@ pub(crate) struct PendingMove {
     from: Place,
 }
 
-// The present source of each register. A register that is not pending names itself.
+// The present source of each register. A register that is not pending names itself. Contracts speak of it by `table_in`: it has no `Model`, since a
+// function, as a table of places is, cannot be a model's value today.
 #[derive(Clone, Copy)]
 pub(crate) struct PendingMoves {
     moves: [PendingMove; REGISTERS as usize],
-    ghost whole: { length moves ≡ registers },
 }

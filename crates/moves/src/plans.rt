@@ -15,12 +15,11 @@ use conventions::calls::fills::arguments;
 use conventions::conventions::Convention;
 use conventions::lists::ArgumentList;
 use least::counts::count_needed;
-use machine::places::Register;
 use machine::refusals::Refusal;
 
 #[derive(Clone, Copy, PartialEq, Eq, Debug)]
 pub struct Plan {
-    // the bytes to reserve
+    // the bytes to reserve; 0 is the answer where a call has no outgoing slots
     pub bytes: u16,
     // N: the arguments whose source is not their own place
     pub needed: u8,
@@ -38,27 +37,27 @@ struct ScratchLoads {
 }
 
 // Fills the registers: first from one another, then with numbers and local slots. Tells how many rings were opened through the scratch.
-fn fill_registers(wants: &Wants, scratch: Register, moves: &mut MoveList) -> u8
-    requires { length (moves_in moves.old) + length (settled (wants_in wants.now) scratch.0) + length (loaded_registers (wants_in wants.now)) ≤ move_limit }
-    ensures moves { moves_in moves.new ≡ (moves_in moves.old ++ settled (wants_in wants.now) scratch.0) ++ loaded_registers (wants_in wants.now) }
-    ensures rings { result ≡ length (opened (wants_in wants.now) scratch.0) }
+fn fill_registers(wants: &Wants, moves: &mut MoveList) -> u8
+    requires { length (moves_in moves.old) + length (settled (wants_in wants.now) wants.now.scratch.0) + length (loaded_registers (wants_in wants.now)) ≤ move_limit }
+    ensures moves { moves_in moves.new ≡ (moves_in moves.old ++ settled (wants_in wants.now) wants.now.scratch.0) ++ loaded_registers (wants_in wants.now) }
+    ensures rings { result ≡ length (opened (wants_in wants.now) wants.now.scratch.0) }
 {
-    let rings = PendingMoves::of(wants).settle(wants, scratch, moves);
+    let rings = PendingMoves::of(wants).settle(wants, moves);
     wants.load_registers(moves);
     rings
 }
 
 // Writes the moves that bring the wants about, in their order.
-fn write_moves(wants: &Wants, scratch: Register, moves: &mut MoveList) -> ScratchLoads
-    requires { length (order_of (wants_in wants.now) scratch.0) ≤ move_limit }
-    ensures moves { moves_in moves.new ≡ order_of (wants_in wants.now) scratch.0 }
-    ensures rings { result.rings ≡ length (opened (wants_in wants.now) scratch.0) }
+fn write_moves(wants: &Wants, moves: &mut MoveList) -> ScratchLoads
+    requires { length (order_of (wants_in wants.now) wants.now.scratch.0) ≤ move_limit }
+    ensures moves { moves_in moves.new ≡ order_of (wants_in wants.now) wants.now.scratch.0 }
+    ensures rings { result.rings ≡ length (opened (wants_in wants.now) wants.now.scratch.0) }
     ensures values { result.values ≡ length (values_spread (wants_in wants.now)) }
 {
     moves.clear();
     wants.store_registers(moves);
-    let values = wants.spread_values(scratch, moves);
-    let rings = fill_registers(wants, scratch, moves);
+    let values = wants.spread_values(moves);
+    let rings = fill_registers(wants, moves);
     wants.store_values(moves);
     ScratchLoads { rings, values }
 }
@@ -72,8 +71,8 @@ pub fn plan_call<C: Convention>(
     ensures { Planned (C.answers convention.now) (listed list.now) result moves.old moves.new }
 {
     let arguments = arguments(convention, list)?;
-    let wants = Wants::of(arguments.entries());
-    let ScratchLoads { rings, values } = write_moves(&wants, convention.scratch(), moves);
+    let wants = Wants::of(arguments.entries(), convention.scratch());
+    let ScratchLoads { rings, values } = write_moves(&wants, moves);
     Ok(Plan {
         bytes: bytes_for(convention.slots(list.len()) as u8),
         needed: count_needed(arguments.entries()) as u8,

@@ -1,20 +1,18 @@
-// What each register and each outgoing slot is to hold.
-ghost use Rattle.std.specs.Prelude.{◌≡◌, length};
-ghost use Rattle.machine.specs.Limits.{outgoing_slots, registers};
-
+// What each register and each outgoing slot is to hold, and the scratch register that serves to bring it about.
 use conventions::arguments::Source;
 use machine::limits::{OUTGOING_SLOTS, REGISTERS};
+use machine::places::Register;
 
 mod fills;
 mod looks;
 
 pub(crate) use looks::is_value;
 
-// The source of the argument in each register, and in each outgoing slot.
+// The source of the argument in each register, and in each outgoing slot; and the scratch register. Contracts speak of it by `wants_in`: a model's value
+// cannot hold functions today.
 #[derive(Clone, Copy)]
 pub(crate) struct Wants {
     by_register: [Option<Source>; REGISTERS as usize],
     by_slot: [Option<Source>; OUTGOING_SLOTS as usize],
-    ghost all_registers: { length by_register ≡ registers },
-    ghost all_slots: { length by_slot ≡ outgoing_slots },
+    pub(crate) scratch: Register,
 }

@@ -9,6 +9,7 @@ use machine::steps::Step;
 use std::process::Abort;
 use std::test::Fail;
 
+// The origin of a source; a function, since neither type is of this crate, which `From` asks for.
 fn origin(source: Source) -> Origin {
     match source {
         Source::Number(number) => Origin::Number(number),

@@ -2,12 +2,12 @@
 ghost use Rattle.plan_trials.specs.Conventions.{hiding};
 ghost use Rattle.std.proofs.Common.{rules};
 
-use crate::plans::each_planned;
-use crate::shorts::{sources, steps};
+use crate::plans::{each_planned, plan};
 use conventions::arguments::{Place, Source};
 use conventions::conventions::Convention;
 use conventions::handles::HandleFirst;
 use machine::places::{LocalSlot, OutgoingSlot, Register, RegisterSet};
+use shorts::{sources, steps};
 use std::test::Fail;
 
 // Hidden: register 0 from register 2, register 1 from a number, outgoing slot 0 from local slot 4.
@@ -73,25 +73,25 @@ fn hidden_arguments(rt: HostRuntime) -> Result<(), Fail> {
         &[
             (
                 sources!(),
-                (16, 3, 0, 1),
+                plan(16, 3, 0, 1),
                 steps!(fetch 3 4, store 0 3, copy 0 2, set 1 9),
             ),
             // a ring through the hidden argument in register 0
             (
                 sources!(r 0),
-                (16, 4, 1, 1),
+                plan(16, 4, 1, 1),
                 steps!(fetch 3 4, store 0 3, copy 3 0, copy 0 2, copy 2 3, set 1 9),
             ),
             // the ring is opened by what is stored
             (
                 sources!(r 0, r 2),
-                (16, 5, 0, 1),
+                plan(16, 5, 0, 1),
                 steps!(store 1 2, fetch 3 4, store 0 3, copy 2 0, back 0 1, set 1 9),
             ),
             // given what hidden arguments come from
             (
                 sources!(r 2, k 9, l 4),
-                (32, 5, 0, 1),
+                plan(32, 5, 0, 1),
                 steps!(fetch 3 4, store 0 3, store 2 3, copy 0 2, set 1 9, store 1 1),
             ),
         ],
@@ -106,12 +106,12 @@ fn handle_after_hidden_arguments(rt: HostRuntime) -> Result<(), Fail> {
         &[
             (
                 sources!(),
-                (16, 4, 0, 1),
+                plan(16, 4, 0, 1),
                 steps!(fetch 3 4, store 0 3, copy 0 2, set 1 9, fetch 2 0),
             ),
             (
                 sources!(r 0),
-                (16, 5, 0, 1),
+                plan(16, 5, 0, 1),
                 steps!(store 1 0, fetch 3 4, store 0 3, copy 0 2, set 1 9, fetch 2 0),
             ),
         ],
@@ -127,12 +127,12 @@ fn two_handles_after_hidden_arguments(rt: HostRuntime) -> Result<(), Fail> {
         &[
             (
                 sources!(),
-                (16, 5, 0, 1),
+                plan(16, 5, 0, 1),
                 steps!(fetch 3 4, store 0 3, copy 0 2, set 1 9, fetch 2 0, store 1 2),
             ),
             (
                 sources!(l 0, r 1),
-                (32, 7, 0, 1),
+                plan(32, 7, 0, 1),
                 steps!(store 3 1, fetch 3 4, store 0 3, copy 0 2, set 1 9, fetch 2 0, store 1 2, store 2 2),
             ),
         ],

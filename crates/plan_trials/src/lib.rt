@@ -16,6 +16,4 @@ mod plans;
 #[cfg(test)]
 mod refusals;
 #[cfg(test)]
-mod shorts;
-#[cfg(test)]
 mod small;

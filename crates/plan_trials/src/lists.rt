@@ -1,8 +1,8 @@
 // Tests of adding to an argument list.
-use crate::shorts::{source, sources};
 use conventions::arguments::Source;
 use conventions::lists::ArgumentList;
 use machine::refusals::Refusal;
+use shorts::{source, sources};
 use std::process::Abort;
 use std::test::Fail;
 

@@ -1,7 +1,6 @@
 // Calls that are planned or refused, with what is expected of them.
 use crate::benches::lands;
 use crate::lists::listing;
-use crate::shorts::{sources, steps};
 use conventions::arguments::Source;
 use conventions::boards::Board;
 use conventions::calls::fills::arguments;
@@ -11,6 +10,7 @@ use machine::refusals::Refusal;
 use machine::steps::Step;
 use moves::lists::MoveList;
 use moves::plans::{Plan, plan_call};
+use shorts::{sources, steps};
 use std::process::Abort;
 use std::test::Fail;
 
@@ -27,30 +27,37 @@ pub(crate) fn planned<C: Convention>(
     Ok((plan, moves))
 }
 
-// the bytes reserved, N, C and M
-pub type Counts = (u16, u8, u8, u8);
+// The plan with so many bytes reserved, N, C and M.
+pub(crate) fn plan(bytes: u16, needed: u8, rings: u8, values: u8) -> Plan {
+    Plan {
+        bytes,
+        needed,
+        rings,
+        values,
+    }
+}
 
-// The call has these counts and these moves.
+// The call has this plan and these moves.
 fn has<C: Convention>(
     rt: &impl Abort,
     convention: &C,
     sources: &[Source],
-    counts: Counts,
+    expected: Plan,
     steps: &[Step],
 ) -> Result<(), Fail> {
     let (plan, moves) = planned(rt, convention, &listing(sources)?)?;
     assert_eq!(rt; moves.steps(), steps);
-    assert_eq!(rt; (plan.bytes, plan.needed, plan.rings, plan.values), counts);
+    assert_eq!(rt; plan, expected);
     Ok(())
 }
 
 pub(crate) fn each_planned<C: Convention>(
     rt: &impl Abort,
     convention: &C,
-    table: &[(&[Source], Counts, &[Step])],
+    table: &[(&[Source], Plan, &[Step])],
 ) -> Result<(), Fail> {
-    for (sources, counts, steps) in table {
-        has(rt, convention, sources, *counts, steps)?;
+    for (sources, expected, steps) in table {
+        has(rt, convention, sources, *expected, steps)?;
     }
     Ok(())
 }

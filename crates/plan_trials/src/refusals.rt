@@ -2,12 +2,12 @@
 use crate::hiding::Hiding;
 use crate::lists::{listing, numbers};
 use crate::plans::{planned, refused};
-use crate::shorts::{source, sources};
 use conventions::arguments::Source;
 use conventions::boards::Board;
 use conventions::conventions::Convention;
 use conventions::handles::HandleFirst;
 use machine::refusals::Refusal;
+use shorts::{source, sources};
 use std::process::Abort;
 use std::test::Fail;
 

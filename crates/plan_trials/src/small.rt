@@ -15,6 +15,7 @@ use std::test::Fail;
 #[derive(Clone, Copy)]
 pub struct Small;
 
+// The small convention and the one with hidden arguments answer alike in part; each is written whole, to be read by itself.
 impl Convention for Small {
     ghost answers = { λ _. small };
 

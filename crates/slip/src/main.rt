@@ -62,7 +62,7 @@ fn main(rt: HostRuntime) -> anyhow::Result<()> {
     show(&rt)
 }
 
-fn show(rt: &HostRuntime) -> anyhow::Result<()> {
+fn show(rt: &(impl Print + AllocGlobal)) -> anyhow::Result<()> {
     println!(rt; "Routine {ROUTINE} is to see the speeds in registers 6 and 7 exchanged.")?;
     println!(rt; "\nThe right list:")?;
     show_list(rt, &RIGHT)?;
@@ -71,7 +71,7 @@ fn show(rt: &HostRuntime) -> anyhow::Result<()> {
 }
 
 // The list goes to a tape, and what is read back from it is run.
-fn show_list(rt: &HostRuntime, steps: &[Step]) -> anyhow::Result<()> {
+fn show_list(rt: &(impl Print + AllocGlobal), steps: &[Step]) -> anyhow::Result<()> {
     let tape = tape_of(rt, steps)?;
     let read = read_back(rt, &tape)?;
     show_runs(rt, &read)

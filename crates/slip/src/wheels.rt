@@ -4,7 +4,6 @@ ghost use Rattle.machine.specs.declared.words.Word.TheVariants.{Number};
 ghost use Rattle.bench.specs.Cells.{cell_count};
 ghost use Rattle.slip.specs.Seeing.{Saw, first_speed, second_speed};
 
-use crate::lists::refused;
 use crate::{FIRST, SECOND};
 use bench::benches::Bench;
 use bench::benches::opens::own_origins;
@@ -57,25 +56,25 @@ fn see<W: WordKind>(cells: &mut [W], steps: &[Step]) -> Result<Seen<W>, Refusal>
 }
 
 // The steps on both wheels and on origins; on origins the speeds are named by their registers.
-pub(crate) fn show_runs(rt: &HostRuntime, steps: &[Step]) -> anyhow::Result<()> {
+pub(crate) fn show_runs(rt: &(impl Print + AllocGlobal), steps: &[Step]) -> anyhow::Result<()> {
     show_wheel(rt, "trial wheel", TRIAL, steps)?;
     show_wheel(rt, "slipping wheel", SLIPPING, steps)?;
     show_origins(rt, steps)
 }
 
-fn show_wheel(rt: &HostRuntime, name: &str, wheel: Wheel, steps: &[Step]) -> anyhow::Result<()> {
+fn show_wheel(
+    rt: &(impl Print + AllocGlobal),
+    name: &str,
+    wheel: Wheel,
+    steps: &[Step],
+) -> anyhow::Result<()> {
     let mut cells = vec![in rt.alloc(); Word::Unknown; CELLS]?;
     load(&mut cells, wheel);
-    let seen = match see(&mut cells, steps) {
-        Ok(seen) => seen,
-        Err(refusal) => return refused(rt, refusal),
-    };
-    let as_asked = seen.first == Word::Number(wheel.second)
-        && seen.second == Word::Number(wheel.first);
+    let seen = see(&mut cells, steps)?;
     let Wheel { first, second } = wheel;
     let (here, there) = (FIRST.0, SECOND.0);
     println!(rt; "  on the {name}, {here} = {first} and {there} = {second} mm/s:")?;
-    show_seen(rt, seen, as_asked)
+    show_seen(rt, seen, Word::Number(second), Word::Number(first))
 }
 
 // Puts a wheel's speeds into the registers, where the cells are enough.
@@ -88,24 +87,20 @@ fn load(cells: &mut [Word], wheel: Wheel)
     }
 }
 
-fn show_origins(rt: &HostRuntime, steps: &[Step]) -> anyhow::Result<()> {
+fn show_origins(rt: &(impl Print + AllocGlobal), steps: &[Step]) -> anyhow::Result<()> {
     let mut cells = vec![in rt.alloc(); Origin::Unknown; CELLS]?;
-    if let Err(refusal) = own_origins(&mut cells) {
-        return refused(rt, refusal);
-    }
-    let seen = match see(&mut cells, steps) {
-        Ok(seen) => seen,
-        Err(refusal) => return refused(rt, refusal),
-    };
-    let as_asked = seen.first == Origin::Register(SECOND) && seen.second == Origin::Register(FIRST);
+    own_origins(&mut cells)?;
+    let seen = see(&mut cells, steps)?;
     println!(rt; "  on origins, which stand for every start:")?;
-    show_seen(rt, seen, as_asked)
+    show_seen(rt, seen, Origin::Register(SECOND), Origin::Register(FIRST))
 }
 
-fn show_seen<W: fmt::Display + Copy>(
-    rt: &HostRuntime,
+// Prints what the routine saw, and whether that is what it is to see.
+fn show_seen<W: fmt::Display + PartialEq + Copy>(
+    rt: &impl Print,
     seen: Seen<W>,
-    as_asked: bool,
+    first_asked: W,
+    second_asked: W,
 ) -> anyhow::Result<()> {
     let Seen {
         routine,
@@ -113,7 +108,11 @@ fn show_seen<W: fmt::Display + Copy>(
         second,
     } = seen;
     let (here, there) = (FIRST.0, SECOND.0);
-    let judgement = if as_asked { "as asked" } else { "wrong" };
+    let judgement = if first == first_asked && second == second_asked {
+        "as asked"
+    } else {
+        "wrong"
+    };
     println!(rt; "    routine {routine} saw {here} = {first} and {there} = {second}: {judgement}")?;
     Ok(())
 }

@@ -1,42 +1,43 @@
 -- Commands and the bytes that they are written as. Assumes nothing.
-use Rattle.std.proofs.Common.{◌≡◌, ℕ, zero, suc, ◌+◌, ◌-◌, ◌*◌, ◌/◌, ◌%◌, ◌^◌, ◌<◌, ◌≤◌, true, ltb, leb, List, [], ◌∷◌, ◌++◌, length, get_or, take, drop, Some, Ok, sym, refl, ap, ◌∙◌, arith}
-use Rattle.std.proofs.lemmas.List.{append_assoc, append-nil, at_drop_all, at_drop_more, drop_at, get_or_append_left, get_or-append_right, length-append, take_at}
+use Rattle.std.proofs.Common.{◌≡◌, ℕ, ◌+◌, ◌-◌, ◌*◌, ◌^◌, ◌<◌, ◌≤◌, true, ltb, leb, List, [], ◌∷◌, ◌++◌, length, get_or, take, drop, set, length-set, Some, Ok, refl, ap, ◌∙◌, arith, rules}
+use Rattle.std.proofs.lemmas.List.{append_assoc, append-nil, at_drop_more, drop_all, drop_at, length-drop, length-append, take_at}
 use Rattle.std.proofs.lemmas.Bool.{and_parts, cond-true, le-leb, ltb-true}
+use Rattle.std.proofs.lemmas.Grind.{flat_map-append}
+use Rattle.std.proofs.lemmas.Slice.{take-put_mid}
 use Rattle.std.specs.List.{flat_map}
+use Rattle.std.specs.Int.{to_le_bytes, w64}
+use borrow.Rule.Slice.PartMut.{put_mid}
 use Rattle.machine.specs.declared.steps.Step.{Step}
-use Rattle.machine.specs.declared.steps.Step.TheVariants as machine
 use Rattle.tape.specs.Limits.{longest_command}
-use Rattle.tape.specs.Opcodes.{first_byte, first_width, opcode_at, operand_bytes, second_width}
+use Rattle.tape.specs.Opcodes.{first_byte, first_width, opcode_at, second_width}
 use Rattle.tape.specs.Commands.{bytes_of, command_of, encode, first_step, fits, little, size, step_at, step_by, step_of, value}
-use Rattle.tape.specs.Gaining.{joined_append}
 use Rattle.tape.specs.declared.commands.Command.{Command}
 use Rattle.tape.specs.declared.opcodes.Opcode.{Opcode}
-use Rattle.tape.specs.declared.opcodes.Opcode.TheVariants.{Copy, Set, Fetch, Back, Store, Keep, Reserve, Call, Pop}
-use Rattle.tape.proofs.Numbers.{get_or-little, length-little, value_little}
+use Rattle.tape.proofs.Numbers.{length-little, take-le_bytes, value_little}
 
--- byte i of a first byte b and two operands, v in w bytes and u in x bytes
-module _ (b w v x u : ℕ) where
-  pub byte_of_first : (i : ℕ) → (i ≡ 0 → ⊥) → i ≤ w → get_or (b ∷ (little w v ++ little x u)) i 0 ≡ (v / 2 ^ (8 * (i - 1))) % 256
-  byte_of_first zero some h = absurd (some refl)
-  byte_of_first (suc j) some h =
-      get_or_append_left (little w v) (little x u) 0 j (rw length-little h) ∙ get_or-little w v j h ∙ ap (λ k. (v / 2 ^ (8 * k)) % 256) (omega arith)
+-- the space with a first byte v and the first operand ys written
+abbrev pub half : List ℕ → ℕ → ℕ → List ℕ → List ℕ
+half space v w ys = put_mid 1 (1 + w - 1) (set space 0 v) ys
 
-  pub byte_of_second : (i : ℕ) → w < i → i < w + x + 1 → get_or (b ∷ (little w v ++ little x u)) i 0 ≡ (u / 2 ^ (8 * (i - 1 - w))) % 256
-  byte_of_second zero h k = absurd (omega arith)
-  byte_of_second (suc j) h k =
-      get_or-append_right (little w v) (little x u) w j 0 (length-little w v) (omega arith) ∙ get_or-little x u (j - w) (omega arith)
-      ∙ ap (λ n. (u / 2 ^ (8 * n)) % 256) (omega arith)
+-- and with the second operand zs, which fills what is left
+module _ (space : List ℕ) (v w x : ℕ) (ys zs : List ℕ) (all : length space ≡ 1 + w + x) (first : length ys ≡ w) where
+  begun : take 1 (set space 0 v) ≡ v ∷ []
+  begun = at_start space (omega arith)
+    where
+      at_start : (bs : List ℕ) → 0 < length bs → take 1 (set bs 0 v) ≡ v ∷ []
+      at_start [] some = absurd (omega arith)
+      at_start (b ∷ bs) some = refl
+
+  command_written : put_mid (1 + w) (length (half space v w ys) - (1 + w)) (half space v w ys) zs ≡ v ∷ (ys ++ zs)
+  command_written =
+      let front : take (1 + w) (half space v w ys) ≡ v ∷ ys =
+      take-put_mid 1 (1 + w - 1) (set space 0 v) ys (1 + w) (omega arith) (simp length-set (omega arith)) ∙ ap (λ bs. bs ++ ys) begun in
+      let nothing : drop (length (half space v w ys) - (1 + w)) (drop (1 + w) (half space v w ys)) ≡ [] =
+      drop_all (length (half space v w ys) - (1 + w)) (drop (1 + w) (half space v w ys)) (simp length-drop (omega arith)) in
+      (λ i. front i ++ (zs ++ nothing i)) ∙ ap (λ bs. v ∷ (ys ++ bs)) (append-nil zs)
 
 opcode_at_byte : (o : Opcode) → opcode_at (first_byte o) ≡ Some o
-opcode_at_byte Copy = refl
-opcode_at_byte Set = refl
-opcode_at_byte Fetch = refl
-opcode_at_byte Back = refl
-opcode_at_byte Store = refl
-opcode_at_byte Keep = refl
-opcode_at_byte Reserve = refl
-opcode_at_byte Call = refl
-opcode_at_byte Pop = refl
+opcode_at_byte o = search rules
 
 -- two operands, with more after them
 module _ (a b w x : ℕ) (rest : List ℕ) where
@@ -77,15 +78,7 @@ first_step_bytes c rest fit =
     ∙ (λ i. Ok (step_by c.opcode (first_operand a b w x rest fit-a fit-b i) (second_operand a b w x rest fit-a fit-b i)))
 
 step_again : (p : Step) → step_of (command_of p) ≡ p
-step_again (machine.Copy d s) = refl
-step_again (machine.Set d k) = refl
-step_again (machine.Fetch d n) = refl
-step_again (machine.Back d o) = refl
-step_again (machine.Store o s) = refl
-step_again (machine.Keep n s) = refl
-step_again (machine.Reserve b) = refl
-step_again (machine.Call r m) = refl
-step_again (machine.Pop b) = refl
+step_again p = search rules
 
 pub first_step_encode : (p : Step) (rest : List ℕ) → fits (command_of p) ≡ true → first_step (encode p ++ rest) ≡ Ok p
 unfolding encode
@@ -99,32 +92,25 @@ unfolding encode
 length-encode p = length-bytes (command_of p)
 
 pub size_bound : (c : Command) → size c ≤ longest_command
-size_bound c = widths c.opcode
-  where
-    widths : (o : Opcode) → operand_bytes o + 1 ≤ longest_command
-    widths Copy = omega arith
-    widths Set = omega arith
-    widths Fetch = omega arith
-    widths Back = omega arith
-    widths Store = omega arith
-    widths Keep = omega arith
-    widths Reserve = omega arith
-    widths Call = omega arith
-    widths Pop = omega arith
+size_bound c = search rules
+
+widths : (o : Opcode) → (first_width o ≤ 8) × (second_width o ≤ 8)
+widths o = search rules
+
+-- a command's bytes, as they are written one part after another
+pub bytes_written : (c : Command) (space ys zs : List ℕ) (v w x : ℕ) → v ≡ first_byte c.opcode → w ≡ first_width c.opcode → x ≡ second_width c.opcode → length space ≡ size c → ys ≡ take w (to_le_bytes w64 c.first) → zs ≡ take x (to_le_bytes w64 c.second) → put_mid (1 + w) (length (half space v w ys) - (1 + w)) (half space v w ys) zs ≡ bytes_of c
+bytes_written c space ys zs v w x v-is w-is x-is all first second =
+    let wide = widths c.opcode in
+    let low : ys ≡ little w c.first = first ∙ take-le_bytes w c.first (omega arith) in
+    let high : zs ≡ little x c.second = second ∙ take-le_bytes x c.second (omega arith) in
+    command_written space v w x ys zs (omega arith) (ap length low ∙ length-little w c.first)
+    ∙ (λ i. v-is i ∷ ((low ∙ ap (λ n. little n c.first) w-is) i ++ (high ∙ ap (λ n. little n c.second) x-is) i))
 
 -- the commands of what is left of a list, one step on
 pub left_more : (ps : List Step) (i : ℕ) (d : Step) → i < length ps → length (flat_map encode (drop i ps)) ≡ length (encode (get_or ps i d)) + length (flat_map encode (drop (i + 1) ps))
 left_more ps i d h =
     at_drop_more (λ qs. length (flat_map encode qs)) ps i d h ∙ length-append (encode (get_or ps i d)) (flat_map encode (drop (i + 1) ps))
 
--- the same by that step's command
-pub length-left : (ps : List Step) (i : ℕ) (d : Step) (c : Command) → i < length ps → c ≡ command_of (get_or ps i d) → length (flat_map encode (drop i ps)) ≡ size c + length (flat_map encode (drop (i + 1) ps))
-length-left ps i d c h is =
-    left_more ps i d h ∙ ap (λ n. n + length (flat_map encode (drop (i + 1) ps))) (length-encode (get_or ps i d) ∙ ap size (sym is))
-
-pub length-left_none : (ps : List Step) (i : ℕ) → length ps ≤ i → length (flat_map encode (drop i ps)) ≡ 0
-length-left_none ps i h = at_drop_all (λ qs. length (flat_map encode qs)) ps i h
-
 -- the commands of one step more
 pub joined_more : (ps : List Step) (p : Step) → flat_map encode (ps ++ (p ∷ [])) ≡ flat_map encode ps ++ encode p
-joined_more ps p = joined_append encode ps (p ∷ []) ∙ ap (λ bs. flat_map encode ps ++ bs) (append-nil (encode p))
+joined_more ps p = flat_map-append encode ps (p ∷ []) ∙ ap (λ bs. flat_map encode ps ++ bs) (append-nil (encode p))

@@ -3,6 +3,7 @@ pub mod Copying
 pub mod Decoding
 pub mod Encoding
 pub mod Filling
+pub mod Leaving
 pub mod Numbers
 pub mod Parsing
 pub mod Rounds

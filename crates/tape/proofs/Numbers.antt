@@ -1,7 +1,9 @@
 -- Numbers as bytes, low byte first. Assumes nothing.
-use Rattle.std.proofs.Common.{◌≡◌, ℕ, zero, suc, ◌+◌, ◌-◌, ◌*◌, ◌/◌, ◌%◌, ◌^◌, ◌<◌, ◌≤◌, List, [], ◌∷◌, length, get_or, drop, sym, refl, ap, ◌∙◌, subst, arith, length-drop, pow_mono}
-use Rattle.std.proofs.lemmas.List.{drop_more}
-use Rattle.std.proofs.lemmas.Nat.{shr-shr, div_below, div-mul-add, mod-mul-add, div-add-mod', mul-add-lt, pow-add}
+use Rattle.std.proofs.Common.{◌≡◌, ℕ, zero, suc, ◌+◌, ◌-◌, ◌*◌, ◌/◌, ◌%◌, ◌^◌, ◌<◌, ◌≤◌, List, [], ◌∷◌, ◌++◌, length, get_or, take, drop, replicate, sym, refl, ap, ◌∙◌, subst, arith}
+use Rattle.std.proofs.lemmas.List.{drop-replicate, length-append, length-replicate}
+use Rattle.std.proofs.lemmas.Nat.{le_bytes_8, div_below, div-mul-add, mod-mul-add, div-add-mod', mul-add-lt, pow-add}
+use Rattle.std.proofs.Math.Nat.{div-div-eq-div-mul}
+use Rattle.std.specs.Int.{bytes_low_first, from_le_bytes, to_le_bytes, w64}
 use Rattle.tape.specs.Commands.{little, value}
 
 pub length-little : (w v : ℕ) → length (little w v) ≡ w
@@ -9,13 +11,30 @@ unfolding little
 length-little zero v = refl
 length-little (suc w) v = ap suc (length-little w (v / 256))
 
-pub get_or-little : (w v i : ℕ) → i < w → get_or (little w v) i 0 ≡ (v / 2 ^ (8 * i)) % 256
+take-little : (w x v : ℕ) → w ≤ x → take w (little x v) ≡ little w v
 unfolding little
-get_or-little zero v i h = absurd (omega arith)
-get_or-little (suc w) v zero h = ap (λ n. n % 256) (grind arith)
-get_or-little (suc w) v (suc i) h =
-    get_or-little w (v / 256) i (omega arith)
-    ∙ ap (λ n. n % 256) (shr-shr v 8 (8 * i) ∙ ap (λ k. v / 2 ^ k) (omega arith))
+take-little zero x v h = refl
+take-little (suc w) zero v h = absurd (omega arith)
+take-little (suc w) (suc x) v h = ap (λ bs. v % 256 ∷ bs) (take-little w x (v / 256) (omega arith))
+
+-- the library's bytes of a number are these
+little_from : (i w v u : ℕ) → u ≡ v / 256 ^ i → bytes_low_first i w v ≡ little w u
+unfolding little
+little_from i zero v u e = refl
+little_from zero (suc w) v u e =
+    let same : v ≡ u = omega arith in
+    let next : u / 256 ≡ v / 256 ^ 1 = ap (λ n. n / 256) (sym same) in
+    (λ k. same k % 256 ∷ little_from 1 w v (u / 256) next k)
+little_from (suc i) (suc w) v u e =
+    let power : 256 ^ suc (suc i) ≡ 256 ^ suc i * 256 = ap (λ k. 256 ^ k) (omega arith) ∙ pow-add 256 (suc i) 1 in
+    let next : u / 256 ≡ v / 256 ^ suc (suc i) = ap (λ n. n / 256) e ∙ div-div-eq-div-mul v (256 ^ suc i) 256 ∙ ap (λ n. v / n) (sym power) in
+    (λ k. sym e k % 256 ∷ little_from (suc (suc i)) w v (u / 256) next k)
+
+le_bytes_is : (v : ℕ) → to_le_bytes w64 v ≡ little 8 v
+le_bytes_is v = little_from 0 8 v v (omega arith)
+
+pub take-le_bytes : (w v : ℕ) → w ≤ 8 → take w (to_le_bytes w64 v) ≡ little w v
+take-le_bytes w v h = ap (take w) (le_bytes_is v) ∙ take-little w 8 v h
 
 -- one byte more is eight bits more
 more_bits : (n : ℕ) → 2 ^ (8 * suc n) ≡ 2 ^ (8 * n) * 256
@@ -32,10 +51,10 @@ value_little (suc w) v h =
 
 -- one byte more at the low end
 module _ (b n v : ℕ) (byte : b < 256) where
-  pub number_fits : v < 2 ^ (8 * n) → v * 256 + b < 2 ^ (8 * suc n)
+  number_fits : v < 2 ^ (8 * n) → v * 256 + b < 2 ^ (8 * suc n)
   number_fits high = omega (arith, more_bits n, mul-add-lt v 256 b (2 ^ (8 * n)) high byte)
 
-  pub little_more : (bs : List ℕ) → little n v ≡ bs → little (suc n) (v * 256 + b) ≡ b ∷ bs
+  little_more : (bs : List ℕ) → little n v ≡ bs → little (suc n) (v * 256 + b) ≡ b ∷ bs
   unfolding little
   little_more bs e = rw (mod-mul-add v 256 b byte, div-mul-add v 256 b byte, e)
 
@@ -45,11 +64,11 @@ pub record Writes (v : ℕ) (bs : List ℕ) : Type 0 where
   pub again : little (length bs) v ≡ bs
   pub fit : v < 2 ^ (8 * length bs)
 
-pub writes_none : Writes 0 []
+writes_none : Writes 0 []
 unfolding little value
 writes_none = record { value_is = refl; again = refl; fit = omega arith }
 
-pub writes_more : (b v : ℕ) (bs : List ℕ) → b < 256 → Writes v bs → Writes (v * 256 + b) (b ∷ bs)
+writes_more : (b v : ℕ) (bs : List ℕ) → b < 256 → Writes v bs → Writes (v * 256 + b) (b ∷ bs)
 unfolding value
 writes_more b v bs byte w = record {
   value_is = omega (arith, w.value_is);
@@ -57,17 +76,39 @@ writes_more b v bs byte w = record {
   fit = number_fits b (length bs) v byte w.fit;
 }
 
--- a loop from the last byte down to the first, about to take the byte before i
-module _ (bs : List ℕ) (i v : ℕ) (some : 0 < i) (here : i ≤ length bs) (w : Writes v (drop i bs)) where
-  -- at most seven bytes leave the place for one more
-  pub room_for_more : length bs ≤ 8 → v < 2 ^ 56
-  room_for_more few =
-      let most : 8 * length (drop i bs) ≤ 56 = simp length-drop (omega arith) in
-      omega (arith, w.fit, pow_mono most)
+-- bytes write their value
+writes_value : (bs : List ℕ) → ((i : ℕ) → get_or bs i 0 < 256) → Writes (value bs) bs
+unfolding value
+writes_value [] bytes = writes_none
+writes_value (b ∷ bs) bytes =
+    subst (λ v. Writes v (b ∷ bs)) (omega arith) (writes_more b (value bs) bs (bytes 0) (writes_value bs (λ i. bytes (suc i))))
 
-  pub writes_earlier : get_or bs (i - 1) 0 < 256 → Writes (v * 256 + get_or bs (i - 1) 0) (drop (i - 1) bs)
-  writes_earlier byte =
-      let at_i : i - 1 + 1 ≡ i = omega arith in
-      let split : drop (i - 1) bs ≡ get_or bs (i - 1) 0 ∷ drop i bs =
-      drop_more bs (i - 1) 0 (omega arith) ∙ ap (λ j. get_or bs (i - 1) 0 ∷ drop j bs) at_i in
-      subst (Writes (v * 256 + get_or bs (i - 1) 0)) (sym split) (writes_more (get_or bs (i - 1) 0) v (drop i bs) byte w)
+-- zeros after bytes leave their value
+value_zeros : (n : ℕ) → value (replicate n 0) ≡ 0
+unfolding value
+value_zeros zero = refl
+value_zeros (suc n) = omega (arith, value_zeros n)
+
+value_append_zeros : (bs : List ℕ) (n : ℕ) → value (bs ++ replicate n 0) ≡ value bs
+unfolding value
+value_append_zeros [] n = value_zeros n
+value_append_zeros (b ∷ bs) n = ap (λ v. b + 256 * v) (value_append_zeros bs n)
+
+-- numbers of a byte, with zeros after them
+bytes_zeros : (bs : List ℕ) (n i : ℕ) → ((k : ℕ) → get_or bs k 0 < 256) → get_or (bs ++ replicate n 0) i 0 < 256
+bytes_zeros [] zero i bytes = omega arith
+bytes_zeros [] (suc n) zero bytes = omega arith
+bytes_zeros [] (suc n) (suc i) bytes = bytes_zeros [] n i bytes
+bytes_zeros (b ∷ bs) n zero bytes = bytes 0
+bytes_zeros (b ∷ bs) n (suc i) bytes = bytes_zeros bs n i (λ k. bytes (suc k))
+
+-- at most eight bytes, which the library reads as eight
+pub number_writes : (bs ys : List ℕ) (v : ℕ) → length bs ≤ 8 → ((i : ℕ) → get_or bs i 0 < 256) → ys ≡ bs → v < 2 ^ 64 → v ≡ from_le_bytes w64 (ys ++ drop (length bs) (replicate 8 0)) → Writes v bs
+number_writes bs ys v few bytes same fit is =
+    let n = 8 - length bs in
+    let zeros : ys ++ drop (length bs) (replicate 8 0) ≡ bs ++ replicate n 0 = (λ i. same i ++ drop-replicate (length bs) 8 0 i) in
+    let long : length (bs ++ replicate n 0) ≡ 8 = simp (length-append, length-replicate) (omega arith) in
+    let again : little 8 v ≡ bs ++ replicate n 0 =
+    sym (le_bytes_is v) ∙ le_bytes_8 (bs ++ replicate n 0) v long (λ i. bytes_zeros bs n i bytes) (is ∙ ap (from_le_bytes w64) zeros) in
+    let all : v ≡ value bs = sym (value_little 8 v fit) ∙ ap value again ∙ value_append_zeros bs n in
+    subst (λ u. Writes u bs) (sym all) (writes_value bs bytes)

@@ -1,6 +1,6 @@
 -- Reading a tape through, command by command. Assumes nothing.
 use Rattle.std.proofs.Common.{◌≡◌, ℕ, ◌+◌, ◌-◌, ◌<◌, ◌≤◌, true, false, ltb, List, [], ◌∷◌, ◌++◌, length, take, drop, Some, None, Ok, Err, Option, Result, sym, refl, ap, ◌∙◌, subst, inl, inr, arith, take-add}
-use Rattle.std.proofs.lemmas.List.{append_assoc, append-nil, drop-drop, length-drop, take_all}
+use Rattle.std.proofs.lemmas.List.{append_assoc, append-nil, drop-drop, length-drop}
 use Rattle.std.proofs.lemmas.Bool.{cases_Bool, cond-false, cond-true, le-ltb, lt-ltb, ltb-false, ltb-true}
 use Rattle.std.specs.List.{flat_map}
 use Rattle.machine.specs.Turns.{is_bare, moved}
@@ -8,7 +8,6 @@ use Rattle.machine.specs.declared.refusals.Refusal.{Refusal}
 use Rattle.machine.specs.declared.refusals.Refusal.TheVariants.{OutOfTurn, TooLong}
 use Rattle.machine.specs.declared.steps.Step.{Step}
 use Rattle.machine.specs.declared.turns.Turn.{Turn}
-use Rattle.machine.specs.declared.turns.Turn.TheVariants.{Bare}
 use Rattle.tape.specs.Limits.{tape_limit}
 use Rattle.tape.specs.Commands.{command_of, encode, first_step, size}
 use Rattle.tape.specs.Readings.{Reading, before, ended, read, reading, stopped}
@@ -68,13 +67,6 @@ way a r b asked =
       | inl long ↦ subst (Way a) (sym (cond-true _ _ _ long)) (too_long (ltb-true tape_limit n long))
       | inr short ↦ subst (Way a) (sym (cond-false _ _ _ short)) (goes_on (ltb-false tape_limit n short) (next_way a.turn a.place (drop a.place a.tape.now)))
     ])
-
-pub through_none : (bs : List ℕ) (a : Reader) → a.tape.now ≡ bs → a.place ≡ 0 → a.turn ≡ Bare → Through bs [] a
-through_none bs a tape place turn = record {
-  tape = tape;
-  reads = λ i. read 0 (sym turn i) (drop (sym place i) bs);
-  front = λ i. take (sym place i) bs;
-}
 
 -- the reader passes one part more
 pub through_more : (bs : List ℕ) (done : List Step) (a : Reader) (part : Part) (b : Reader) → Through bs done a → Asked a (Ok (Some part)) b → Through bs (done ++ (part.step ∷ [])) b
@@ -136,14 +128,6 @@ module _ (bs : List ℕ) (done : List Step) (a : Reader) (th : Through bs done a
       by_way : Way a (Ok None) → tape_reads bs ≡ Ok done
       by_way (goes_on short (at_end none_left bare)) =
           ends short none_left ∙ cond-true (is_bare a.turn) _ _ bare ∙ ap (λ ps. Ok ps) (append-nil done)
-
-  -- at the end the commands of the steps read are the whole tape
-  pub through_all : (b : Reader) → Asked a (Ok None) b → flat_map encode done ≡ bs
-  through_all b asked = by_way (way a (Ok None) b asked)
-    where
-      by_way : Way a (Ok None) → flat_map encode done ≡ bs
-      by_way (goes_on short (at_end none_left bare)) =
-          th.front ∙ take_all a.place bs (omega (arith, length-drop a.place bs, ap length (sym left_of ∙ none_left)))
 
   pub through_fault : (e : Fault) (b : Reader) → Asked a (Err e) b → tape_reads bs ≡ Err e
   through_fault e b asked = by_way e (way a (Err e) b asked)

@@ -1,5 +1,5 @@
 -- A step as a command: its first byte, then its operands, each low byte first. Assumes nothing.
-use Rattle.std.specs.Prelude.{ℕ, zero, suc, ◌+◌, ◌*◌, ◌/◌, ◌%◌, ◌^◌, Bool, cond, ◌&&◌, List, [], ◌∷◌, ◌++◌, length, take, drop, Some, None, Ok, Err, Option, Result, nat_le, nat_lt}
+use Rattle.std.specs.Prelude.{◌≡◌, ℕ, zero, suc, ◌+◌, ◌*◌, ◌/◌, ◌%◌, ◌^◌, Bool, true, cond, ◌&&◌, List, [], ◌∷◌, ◌++◌, length, take, drop, Some, None, Ok, Err, Option, Result, nat_le, nat_lt}
 use Rattle.machine.specs.declared.refusals.Refusal.{Refusal}
 use Rattle.machine.specs.declared.refusals.Refusal.TheVariants.{CutShort, UnknownCommand}
 use Rattle.machine.specs.declared.steps.Step.{Step}
@@ -52,6 +52,11 @@ step_of c = step_by c.opcode c.first c.second
 -- the operands are numbers of their widths, as those of every step that a program holds
 abbrev pub fits : Command → Bool
 fits c = nat_lt c.first (2 ^ (8 * first_width c.opcode)) && nat_lt c.second (2 ^ (8 * second_width c.opcode))
+
+-- the command of a step, whose operands are numbers of their widths
+pub record CommandOf (p : Step) (c : Command) : Type 0 where
+  pub is : c ≡ command_of p
+  pub fit : fits c ≡ true
 
 abbrev pub bytes_of : Command → List ℕ
 bytes_of c = first_byte c.opcode ∷ (little (first_width c.opcode) c.first ++ little (second_width c.opcode) c.second)

@@ -1,24 +1,21 @@
 -- Why the meaning of a tape is lawful: its turn is its state's, and gains join. Assumes nothing.
-use Rattle.std.specs.Prelude.{◌≡◌, ℕ, ◌+◌, ◌≤◌, List, [], ◌∷◌, ◌++◌, length, take, drop, refl}
+use Rattle.std.specs.Prelude.{◌≡◌, ℕ, ◌+◌, ◌≤◌, List, [], ◌++◌, length, take, drop, refl}
 use Rattle.std.proofs.Common.{sym, ap, ◌∙◌, arith}
 use Rattle.std.proofs.lemmas.List.{append_assoc, append-nil, drop-drop, drop_at, length-append, length-take-le, take-append-drop, take_at}
+use Rattle.std.proofs.lemmas.Grind.{flat_map-append}
 use Rattle.std.specs.List.{flat_map}
 use Rattle.machine.specs.Words.{Start}
 use Rattle.machine.specs.States.{begin}
 use Rattle.machine.specs.Effects.{run}
 use Rattle.machine.specs.declared.steps.Step.{Step}
-use Rattle.machine.proofs.Walks.{arrives_walked, run_turn}
+use Rattle.machine.proofs.Walks.{run_turn}
 use Rattle.tape.specs.Commands.{encode}
 use Rattle.tape.specs.Tapes.{Gains, tape_steps, written}
 use Rattle.tape.specs.declared.tapes.Tape.{Tape}
 
 -- a tape's turn is the turn of its state
 pub tape_turn : (e : Tape) (s : Start) → (run (tape_steps e) (begin s)).turn ≡ e.turn
-tape_turn e s = run_turn (tape_steps e) (begin s) e.turn (arrives_walked (tape_steps e) e.turn e.walks)
-
-pub joined_append : {X A : Type 0} (f : X → List A) (xs ys : List X) → flat_map f (xs ++ ys) ≡ flat_map f xs ++ flat_map f ys
-joined_append f [] ys = refl
-joined_append f (x ∷ xs) ys = ap (λ bs. f x ++ bs) (joined_append f xs ys) ∙ sym (append_assoc (f x) (flat_map f xs) (flat_map f ys))
+tape_turn e s = run_turn (tape_steps e) (begin s) e.turn e.walks
 
 -- writing ys right after xs is writing both
 module _ (bs : List ℕ) (at : ℕ) (within : at ≤ length bs) (xs : List ℕ) where
@@ -50,7 +47,7 @@ gains_none e = record {
 
 pub gains_more : (a b c : Tape) (ps qs : List Step) → Gains a ps b → Gains b qs c → Gains a (ps ++ qs) c
 gains_more a b c ps qs front back =
-    let both = joined_append encode ps qs in
+    let both = flat_map-append encode ps qs in
     record {
       lent = back.lent ∙ front.lent;
       steps = back.steps ∙ ap (λ ss. ss ++ qs) front.steps ∙ append_assoc (tape_steps a) ps qs;

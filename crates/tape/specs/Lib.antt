@@ -7,3 +7,4 @@ pub mod Gaining
 pub mod Meanings
 pub mod Readers
 pub mod Whole
+pub mod Errors

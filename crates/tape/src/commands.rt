@@ -1,6 +1,6 @@
 // Steps as commands.
-ghost use Rattle.std.specs.Prelude.{◌≡◌, ◌*◌, ◌/◌, ◌%◌, ◌^◌, ◌<◌, ◌≤◌, true, length, slice_index};
-ghost use Rattle.tape.specs.Commands.{bytes_of, command_of, fits, little, size, step_of, value};
+ghost use Rattle.std.specs.Prelude.{◌≡◌, ◌*◌, ◌^◌, ◌<◌, ◌≤◌, true, length};
+ghost use Rattle.tape.specs.Commands.{CommandOf, bytes_of, fits, little, size, step_of, value};
 
 use crate::opcodes::Opcode;
 use machine::places::{LocalSlot, OutgoingSlot, Register, RegisterSet};
@@ -14,12 +14,10 @@ pub struct Command {
     pub second: u64,
 }
 
-impl Command {
-    // The command of a step.
-    pub(crate) fn of(step: Step) -> Command
-        ensures is { result ≡ command_of step }
-        ensures fit { fits result ≡ true }
-    {
+impl From<Step> for Command {
+    ghost from_gives = { CommandOf };
+
+    fn from(step: Step) -> Command {
         let (opcode, first, second) = match step {
             Step::Copy { to, from } => (Opcode::Copy, to.0 as u64, from.0 as u64),
             Step::Set { to, number } => (Opcode::Set, to.0 as u64, number),
@@ -37,7 +35,9 @@ impl Command {
             second,
         }
     }
+}
 
+impl Command {
     // The step of a command.
     pub(crate) fn step(self) -> Step
         requires { fits self ≡ true }
@@ -90,28 +90,17 @@ impl Command {
         self.opcode.first_width() + self.opcode.second_width() + 1
     }
 
-    // One of its bytes.
-    pub(crate) fn byte(self, i: usize) -> u8
-        requires { i < size self }
-        ensures { result ≡ slice_index (bytes_of self) i }
+    // Writes its bytes, which fill the space.
+    pub(crate) fn write(self, space: &mut [u8])
+        requires { length space.old ≡ size self }
+        ensures { space.new ≡ bytes_of self }
     {
-        let width = self.opcode.first_width();
-        if i == 0 {
-            self.opcode.byte()
-        } else if i <= width {
-            byte_of(self.first, i - 1)
-        } else {
-            byte_of(self.second, i - 1 - width)
-        }
+        let first = self.opcode.first_width();
+        let second = self.opcode.second_width();
+        space[0] = self.opcode.byte();
+        space[1..1 + first].copy_from_slice(&self.first.to_le_bytes()[..first]);
+        space[1 + first..].copy_from_slice(&self.second.to_le_bytes()[..second]);
     }
-}
-
-// Byte i of a number, where byte 0 is the lowest.
-fn byte_of(number: u64, i: usize) -> u8
-    requires { i < 8 }
-    ensures { result ≡ (number / 2 ^ (8 * i)) % 256 }
-{
-    ((number >> (8 * i)) % 256) as u8
 }
 
 // The number that at most eight bytes write, low byte first.
@@ -121,9 +110,7 @@ pub(crate) fn number(bytes: &[u8]) -> u64
     ensures again { little (length bytes.now) result ≡ bytes.now }
     ensures fit { result < 2 ^ (8 * length bytes.now) }
 {
-    let mut number = 0;
-    for i in (0..bytes.len()).rev() {
-        number = number * 256 + bytes[i] as u64;
-    }
-    number
+    let mut word = [0; 8];
+    word[..bytes.len()].copy_from_slice(bytes);
+    u64::from_le_bytes(word)
 }

@@ -1,37 +1,45 @@
 // The first byte of each command, and how many bytes its operands take.
 ghost use Rattle.std.specs.Prelude.{◌≡◌};
+ghost use Rattle.std.specs.Option.{ok_or};
+ghost use Rattle.machine.specs.declared.refusals.Refusal.TheVariants.{UnknownCommand};
 ghost use Rattle.tape.specs.Opcodes.{first_byte, first_width, opcode_at, second_width};
 
-// the first byte of each command
-const COPY: u8 = 1;
+use machine::refusals::Refusal;
 
-const SET: u8 = 2;
-
-const FETCH: u8 = 3;
-
-const BACK: u8 = 4;
-
-const STORE: u8 = 5;
-
-const KEEP: u8 = 6;
-
-const RESERVE: u8 = 7;
-
-const CALL: u8 = 8;
-
-const POP: u8 = 9;
-
-#[derive(Clone, Copy)]
+// The commands by their first bytes.
+#[derive(Clone, Copy, PartialEq, Eq, Debug)]
 pub enum Opcode {
-    Copy,
-    Set,
-    Fetch,
-    Back,
-    Store,
-    Keep,
-    Reserve,
-    Call,
-    Pop,
+    Copy = 1,
+    Set = 2,
+    Fetch = 3,
+    Back = 4,
+    Store = 5,
+    Keep = 6,
+    Reserve = 7,
+    Call = 8,
+    Pop = 9,
+}
+
+// The command that begins with a byte.
+impl TryFrom<u8> for Opcode {
+    type Error = Refusal;
+
+    ghost try_from_gives = { λ byte answer. answer ≡ ok_or (opcode_at byte) UnknownCommand };
+
+    fn try_from(byte: u8) -> Result<Opcode, Refusal> {
+        match byte {
+            1 => Ok(Opcode::Copy),
+            2 => Ok(Opcode::Set),
+            3 => Ok(Opcode::Fetch),
+            4 => Ok(Opcode::Back),
+            5 => Ok(Opcode::Store),
+            6 => Ok(Opcode::Keep),
+            7 => Ok(Opcode::Reserve),
+            8 => Ok(Opcode::Call),
+            9 => Ok(Opcode::Pop),
+            _ => Err(Refusal::UnknownCommand),
+        }
+    }
 }
 
 impl Opcode {
@@ -39,35 +47,7 @@ impl Opcode {
     pub(crate) fn byte(self) -> u8
         ensures { result ≡ first_byte self }
     {
-        match self {
-            Opcode::Copy => COPY,
-            Opcode::Set => SET,
-            Opcode::Fetch => FETCH,
-            Opcode::Back => BACK,
-            Opcode::Store => STORE,
-            Opcode::Keep => KEEP,
-            Opcode::Reserve => RESERVE,
-            Opcode::Call => CALL,
-            Opcode::Pop => POP,
-        }
-    }
-
-    // The command that begins with this byte, if any does.
-    pub(crate) fn at(byte: u8) -> Option<Opcode>
-        ensures { result ≡ opcode_at byte }
-    {
-        match byte {
-            COPY => Some(Opcode::Copy),
-            SET => Some(Opcode::Set),
-            FETCH => Some(Opcode::Fetch),
-            BACK => Some(Opcode::Back),
-            STORE => Some(Opcode::Store),
-            KEEP => Some(Opcode::Keep),
-            RESERVE => Some(Opcode::Reserve),
-            CALL => Some(Opcode::Call),
-            POP => Some(Opcode::Pop),
-            _ => None,
-        }
+        self as u8
     }
 
     // The bytes of the first operand.

@@ -1,9 +1,12 @@
 // The reader's types, with what every reader keeps.
-ghost use Rattle.std.specs.Prelude.{◌≤◌, length};
+ghost use Rattle.std.specs.Prelude.{◌≤◌, length, Some};
+ghost use Rattle.tape.specs.Errors.{fault_text};
 
 use machine::refusals::Refusal;
 use machine::steps::Step;
 use machine::turns::Turn;
+use std::error::Error;
+use std::fmt;
 
 pub mod reads;
 
@@ -18,7 +21,7 @@ pub struct Reader<'a> {
 }
 
 // A command as a part of the tape, with its place.
-#[derive(Clone, Copy)]
+#[derive(Clone, Copy, PartialEq, Eq, Debug)]
 pub struct Part<'a> {
     pub place: usize,
     pub bytes: &'a [u8],
@@ -31,3 +34,14 @@ pub struct Fault {
     pub refusal: Refusal,
     pub place: usize,
 }
+
+// The refusal alone; the place is for the caller to tell.
+impl fmt::Display for Fault {
+    ghost output = { λ e. Some (fault_text e) };
+
+    fn fmt<W: fmt::Write>(&self, f: &mut fmt::Formatter<W>) -> fmt::Result {
+        write!(f, "{}", self.refusal)
+    }
+}
+
+impl Error for Fault {}

@@ -53,15 +53,12 @@ pub fn read_back(heap: Global, tape: &Tape) -> Result<Vec<Step>, ReadError>
 fn leaves_spare(steps: &[Step], space: usize) -> bool
     ensures { result ≡ nat_le (length (flat_map encode steps.now) + longest_command) space }
 {
-    let mut free = space;
-    for step in steps {
-        let size = Command::of(*step).size();
-        if free < size + LONGEST_COMMAND {
-            return false;
-        }
-        free -= size;
-    }
-    free >= LONGEST_COMMAND
+    steps
+        .iter()
+        .try_fold(space, |free, step| {
+            free.checked_sub(Command::from(*step).size())
+        })
+        .is_some_and(|free| free >= LONGEST_COMMAND)
 }
 
 // Writes the steps as a tape, and answers its length; or refuses, and writes nothing.
@@ -76,10 +73,7 @@ pub fn write_tape(steps: &[Step], buffer: &mut [u8]) -> Result<usize, Refusal>
     }
     let mut tape = Tape::open(buffer);
     for step in steps {
-        match tape.take(*step) {
-            Ok(()) => {}
-            Err(_) => unreachable!(),
-        }
+        tape.take(*step).unwrap();
     }
     Ok(tape.bytes().len())
 }
@@ -97,10 +91,7 @@ pub fn rewrite_tape(tape: &[u8], buffer: &mut [u8]) -> Result<usize, RewriteErro
     let mut reader = Reader::open(tape);
     // neither refuses now: the tape was read through, and there is space for all of it
     while let Some(part) = reader.next_command()? {
-        match copy.take(part.step) {
-            Ok(()) => {}
-            Err(_) => unreachable!(),
-        }
+        copy.take(part.step).unwrap();
     }
     Ok(tape.len())
 }

@@ -1,6 +1,5 @@
 // Tests of the bench: its cells, and what each step does on plain words and on origins.
 use crate::cells::*;
-use crate::steps::step;
 use bench::benches::Bench;
 use bench::benches::opens::own_origins;
 use bench::kinds::WordKind;
@@ -11,6 +10,7 @@ use machine::refusals::Refusal;
 use machine::steps::Step;
 use machine::turns::Turn;
 use machine::words::Word;
+use shorts::step;
 use std::fmt::Debug;
 use std::process::Abort;
 use std::test::Fail;
@@ -36,11 +36,11 @@ fn own_origins_of_other_counts(rt: HostRuntime) {
 #[test]
 fn own_origins_of_all_cells(rt: HostRuntime) -> Result<(), Fail> {
     let mut expected = [Origin::Unknown; 1152];
-    for r in 0..32 {
-        expected[r as usize] = Origin::Register(Register(r));
+    for (r, cell) in expected[..LOCALS].iter_mut().enumerate() {
+        *cell = Origin::Register(Register(r as u8));
     }
-    for n in 0..1024 {
-        expected[LOCALS + n as usize] = Origin::Local(LocalSlot(n));
+    for (n, cell) in expected[LOCALS..OUTGOING].iter_mut().enumerate() {
+        *cell = Origin::Local(LocalSlot(n as u16));
     }
     same(&rt, &own()?, &expected);
     Ok(())
@@ -54,14 +54,17 @@ enum Held {
     Unknown,
 }
 
-// so many cells from a cell on, and what they hold
+// so many cells from a cell on, and what they hold; a tuple, so that a row of a table fits on a line
 type Change = (usize, usize, Held);
 
 fn word<W: WordKind>(start: &Cells<W>, held: Held, k: usize) -> W {
     match held {
-        Held::Start(i) if i < 1152 && k < 1152 - i => start[i + k],
+        Held::Start(i) => start
+            .get(i.saturating_add(k))
+            .copied()
+            .unwrap_or(W::unknown()),
         Held::Number(number) => W::number(number),
-        _ => W::unknown(),
+        Held::Unknown => W::unknown(),
     }
 }
 
@@ -69,11 +72,8 @@ fn word<W: WordKind>(start: &Cells<W>, held: Held, k: usize) -> W {
 fn changed<W: WordKind>(start: &Cells<W>, changes: &[Change]) -> Cells<W> {
     let mut cells = opened(*start);
     for (first, count, held) in changes {
-        for k in 0..*count {
-            let i = first.saturating_add(k);
-            if i < 1152 {
-                cells[i] = word(start, *held, k);
-            }
+        for (k, cell) in cells.iter_mut().skip(*first).take(*count).enumerate() {
+            *cell = word(start, *held, k);
         }
     }
     cells
@@ -81,14 +81,11 @@ fn changed<W: WordKind>(start: &Cells<W>, changes: &[Change]) -> Cells<W> {
 
 // The bench tells of the latest call step what the last cells hold.
 fn sees<W: WordKind + PartialEq + Debug>(rt: &impl Abort, bench: &Bench<W>, cells: &Cells<W>) {
-    for i in 0..32 {
-        let seen = (
-            bench.seen_register(Register(i)),
-            bench.seen_outgoing(OutgoingSlot(i as u16)),
-        );
-        let register = cells[SEEN_REGISTERS + i as usize];
-        let outgoing = cells[SEEN_OUTGOING + i as usize];
-        assert_eq!(rt; seen, (Some(register), Some(outgoing)));
+    for (r, cell) in cells.iter().skip(SEEN_REGISTERS).take(32).enumerate() {
+        assert_eq!(rt; bench.seen_register(Register(r as u8)), Some(*cell));
+    }
+    for (o, cell) in cells.iter().skip(SEEN_OUTGOING).enumerate() {
+        assert_eq!(rt; bench.seen_outgoing(OutgoingSlot(o as u16)), Some(*cell));
     }
     let seen = (
         bench.seen_register(Register(32)),
@@ -97,7 +94,7 @@ fn sees<W: WordKind + PartialEq + Debug>(rt: &impl Abort, bench: &Bench<W>, cell
     assert_eq!(rt; seen, (None, None));
 }
 
-// what a bench tells: its turn, its calls and the latest routine
+// what a bench tells: its turn, its calls and the latest routine; a tuple for the same reason
 type Told = (Turn, u32, u32);
 
 // A bench over these cells takes the steps, and then tells this and has these changes, and no other.

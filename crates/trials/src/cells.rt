@@ -3,6 +3,7 @@ use bench::benches::opens::own_origins;
 use bench::kinds::WordKind;
 use bench::origins::Origin;
 use machine::words::Word;
+use std::array;
 use std::fmt::Debug;
 use std::process::Abort;
 use std::test::Fail;
@@ -21,11 +22,7 @@ pub const SEEN_OUTGOING: usize = 1120;
 
 // Words that are each the number of their cell.
 pub(crate) fn numbered() -> Cells<Word> {
-    let mut cells = [Word::Unknown; 1152];
-    for i in 0..1152 {
-        cells[i] = Word::Number(i as u64);
-    }
-    cells
+    array::from_fn(|i| Word::Number(i as u64))
 }
 
 // Registers and local slots that are their own origins.
@@ -37,8 +34,8 @@ pub(crate) fn own() -> Result<Cells<Origin>, Fail> {
 
 // The cells as a bench opens on them.
 pub(crate) fn opened<W: WordKind>(mut cells: Cells<W>) -> Cells<W> {
-    for i in OUTGOING..1152 {
-        cells[i] = W::unknown();
+    for cell in cells.iter_mut().skip(OUTGOING) {
+        *cell = W::unknown();
     }
     cells
 }
@@ -48,7 +45,7 @@ pub(crate) fn same<W: WordKind + PartialEq + Debug>(
     cells: &Cells<W>,
     expected: &Cells<W>,
 ) {
-    for i in 0..1152 {
-        assert_eq!(rt; cells[i], expected[i], "cell {i}");
+    for (i, (cell, other)) in cells.iter().zip(expected).enumerate() {
+        assert_eq!(rt; cell, other, "cell {i}");
     }
 }

@@ -1,11 +1,11 @@
 // Tests of what every emitter takes and refuses, on a tape and on a bench.
 use crate::cells::*;
-use crate::steps::step;
 use crate::tapes::filled;
 use bench::benches::Bench;
 use machine::emitters::Emitter;
 use machine::refusals::Refusal;
 use machine::steps::Step;
+use shorts::step;
 use std::process::Abort;
 use tape::tapes::Tape;
 use tape::whole::check_tape;
@@ -139,9 +139,7 @@ fn bench_around_a_call(rt: HostRuntime) {
     answers(&rt, &mut Bench::make(&mut cells), around_a_call());
     // the call step has seen the registers, and all else is as it was
     let mut expected = opened(start);
-    for r in 0..32 {
-        expected[SEEN_REGISTERS + r] = start[r];
-    }
+    expected.copy_within(0..LOCALS, SEEN_REGISTERS);
     same(&rt, &cells, &expected);
 }
 

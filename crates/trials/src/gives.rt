@@ -1,11 +1,11 @@
 // Tests of giving a list of steps: all of them or none, to a tape and to a bench.
 use crate::cells::*;
-use crate::steps::step;
 use crate::tapes::{TAPE, all_nine, filled};
 use bench::benches::Bench;
 use machine::emitters::{Emitter, give};
 use machine::refusals::Refusal;
 use machine::steps::Step;
+use shorts::step;
 use std::process::Abort;
 use std::test::Fail;
 use tape::tapes::Tape;

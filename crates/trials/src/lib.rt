@@ -16,8 +16,6 @@ mod readers;
 #[cfg(test)]
 mod refusals;
 #[cfg(test)]
-mod steps;
-#[cfg(test)]
 mod tapes;
 #[cfg(test)]
 mod whole;

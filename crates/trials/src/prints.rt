@@ -1,9 +1,9 @@
 // Tests of how steps, words and origins print.
-use crate::steps::step;
 use bench::origins::Origin;
 use machine::places::{LocalSlot, Register};
 use machine::steps::Step;
 use machine::words::Word;
+use shorts::step;
 use std::process::Abort;
 use std::test::Fail;
 

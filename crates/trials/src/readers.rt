@@ -1,7 +1,7 @@
 // Tests of the reader: each refusal with its place, and the parts that it hands out.
-use crate::steps::step;
 use crate::tapes::TAPE;
 use machine::steps::Step;
+use shorts::step;
 use std::alloc::{AllocError, Global};
 use std::process::Abort;
 use std::test::Fail;
@@ -16,7 +16,7 @@ const RESERVED: &[u8] = &[7, 16, 0];
 
 const CALLED: &[u8] = &[7, 16, 0, 8, 0, 0, 0, 0, 0, 0, 0, 0];
 
-// The tape is refused with this number at this byte: when it is checked, when it is read, and whenever
+// The tape is refused with this number, as it is published, at this byte: when it is checked, when it is read, and whenever
 // a reader is asked there.
 fn refused(rt: &impl Abort, heap: Global, tape: &[u8], number: u8, place: usize) {
     let Err(fault) = check_tape(tape) else {

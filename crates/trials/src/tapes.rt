@@ -1,6 +1,6 @@
 // A tape of all nine steps, and buffers of 0xEE, for the tests.
-use crate::steps::step;
 use machine::steps::Step;
+use shorts::step;
 use std::process::Abort;
 
 pub(crate) fn all_nine() -> &'static [Step] {

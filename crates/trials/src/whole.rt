@@ -1,9 +1,9 @@
 // Tests of whole tapes: written, written again and read back.
-use crate::steps::step;
 use crate::tapes::{TAPE, all_nine, filled};
 use machine::emitters::{Emitter, give};
 use machine::refusals::Refusal;
 use machine::steps::Step;
+use shorts::step;
 use std::process::Abort;
 use std::test::Fail;
 use tape::errors::{ReadError, RewriteError};

@@ -1,5 +1,5 @@
 // What a step does to many cells at once.
-ghost use Rattle.std.specs.Prelude.{◌≡◌, ◌+◌, ◌≤◌, take};
+ghost use Rattle.std.specs.Prelude.{◌≡◌, ◌+◌, ◌-◌, ◌≤◌, take};
 ghost use Rattle.machine.specs.Effects.{lose};
 ghost use Rattle.bench.specs.Cells.{call_words, cell_count, copied, wiped};
 ghost use Rattle.bench.specs.Benches.{Rewritten};
@@ -7,35 +7,38 @@ ghost use Rattle.bench.specs.Benches.{Rewritten};
 use crate::benches::Bench;
 use crate::kinds::WordKind;
 use crate::limits::*;
-use machine::limits::{OUTGOING_SLOTS, REGISTERS};
+use machine::limits::REGISTERS;
 use machine::places::{Register, RegisterSet};
+use std::ops::Range;
 
 impl<'a, W: WordKind> Bench<'a, W> {
-    // Makes so many cells from `first` on unknown, and keeps those before them.
-    pub(super) fn wipe(&mut self, first: usize, count: usize)
-        requires { first + count ≤ cell_count }
-        ensures words { Rewritten W.stands (wiped first count) self.old self.new }
-        ensures before { take first self.new.cells.now ≡ take first self.old.cells.now }
+    // Makes the cells of the area unknown, and keeps those before them.
+    pub(super) fn wipe(&mut self, area: Range<usize>)
+        requires ordered { area.start ≤ area.end }
+        requires inside { area.end ≤ cell_count }
+        ensures words { Rewritten W.stands (wiped area.start (area.end - area.start)) self.old self.new }
+        ensures before { take area.start self.new.cells.now ≡ take area.start self.old.cells.now }
     {
-        for i in 0..count {
-            self.cells[first + i] = W::unknown();
-        }
+        let unknown = W::unknown();
+        // `fill` asks that a clone cannot fail, which a word kind does not say
+        self.cells[area].fill_with(|| unknown);
     }
 
-    // Copies so many cells from `from` on over those from `to` on, which come later.
-    pub(super) fn copy_area(&mut self, from: usize, to: usize, count: usize)
-        requires { (from + count ≤ to) × (to + count ≤ cell_count) }
-        ensures { Rewritten W.stands (copied from to count) self.old self.new }
+    // Copies the cells of the area over those from `to` on.
+    pub(super) fn copy_area(&mut self, area: Range<usize>, to: usize)
+        requires ordered { area.start ≤ area.end }
+        requires inside { area.end ≤ cell_count }
+        requires target { to + (area.end - area.start) ≤ cell_count }
+        ensures { Rewritten W.stands (copied area.start to (area.end - area.start)) self.old self.new }
     {
-        for i in 0..count {
-            self.cells[to + i] = self.cells[from + i];
-        }
+        self.cells.copy_within(area, to);
     }
 
     // Makes the registers of the set unknown.
     pub(super) fn lose_registers(&mut self, lost: RegisterSet)
         ensures { Rewritten W.stands (lose lost.0) self.old self.new }
     {
+        // by the register's number, which the set is asked for: a cell's index would have to be cast down to it
         for r in 0..REGISTERS {
             if lost.contains(Register(r)) {
                 self.cells[r as usize] = W::unknown();
@@ -47,9 +50,9 @@ impl<'a, W: WordKind> Bench<'a, W> {
     pub(super) fn record_call(&mut self, lost: RegisterSet)
         ensures { Rewritten W.stands (call_words lost.0) self.old self.new }
     {
-        self.copy_area(0, SEEN_REGISTERS, REGISTERS as usize);
-        self.copy_area(OUTGOING, SEEN_OUTGOING, OUTGOING_SLOTS as usize);
-        self.wipe(OUTGOING, OUTGOING_SLOTS as usize);
+        self.copy_area(0..LOCALS, SEEN_REGISTERS);
+        self.copy_area(OUTGOING..SEEN_REGISTERS, SEEN_OUTGOING);
+        self.wipe(OUTGOING..SEEN_REGISTERS);
         self.lose_registers(lost);
     }
 }

@@ -9,7 +9,6 @@ use crate::benches::Bench;
 use crate::kinds::WordKind;
 use crate::limits::*;
 use machine::emitters::Emitter;
-use machine::limits::OUTGOING_SLOTS;
 use machine::refusals::Refusal;
 use machine::steps::Step;
 use machine::turns::Turn;
@@ -32,7 +31,7 @@ impl<'a, W: WordKind> Bench<'a, W> {
                 self.cells[from.0 as usize],
             Step::Keep { to, from } => self.cells[LOCALS + to.0 as usize] =
                 self.cells[from.0 as usize],
-            Step::Reserve { bytes: _ } => self.wipe(OUTGOING, OUTGOING_SLOTS as usize),
+            Step::Reserve { bytes: _ } => self.wipe(OUTGOING..SEEN_REGISTERS),
             Step::Call { routine, lost } => {
                 self.record_call(lost);
                 self.routine = routine;
@@ -62,6 +61,7 @@ impl<'a, W: WordKind> Emitter for Bench<'a, W> {
         if !step.in_range(self.turn) {
             return Err(Refusal::OutOfRange);
         }
+        // the turn is matched here with the step in place, as the project asks
         let next = match (self.turn, step) {
             (Turn::Bare, Step::Reserve { bytes }) => Turn::Reserved(bytes),
             (Turn::Called(held), Step::Pop { bytes }) if bytes == held => Turn::Bare,

@@ -2,13 +2,12 @@
 ghost use Rattle.std.specs.Prelude.{◌≡◌, length};
 ghost use Rattle.bench.specs.Cells.{cell_count, judged_cells};
 ghost use Rattle.bench.specs.Benches.{Opened};
-ghost use Rattle.bench.specs.Origins.{OwnOrigins};
+ghost use Rattle.bench.specs.Origins.{OwnOrigins, own_origin};
 
 use crate::benches::Bench;
 use crate::kinds::WordKind;
 use crate::limits::*;
 use crate::origins::Origin;
-use machine::limits::{LOCAL_SLOTS, REGISTERS};
 use machine::places::{LocalSlot, Register};
 use machine::refusals::Refusal;
 use machine::turns::Turn;
@@ -29,7 +28,8 @@ impl<'a, W: WordKind> Bench<'a, W> {
     // the other cells unknown.
     pub fn make(cells: &'a mut [W]) -> Bench<'a, W>
         requires { length cells.old ≡ cell_count }
-        ensures { (Opened W.stands cells.old result) × (result.cells.ghost_name ≡ cells.entry.ghost_name) }
+        ensures opened { Opened W.stands cells.old result }
+        ensures lent { result.cells.ghost_name ≡ cells.entry.ghost_name }
     {
         let mut bench = Bench {
             cells,
@@ -38,24 +38,30 @@ impl<'a, W: WordKind> Bench<'a, W> {
             routine: 0,
             taken: 0,
         };
-        bench.wipe(OUTGOING, CELLS - OUTGOING);
+        bench.wipe(OUTGOING..CELLS);
         bench
     }
 }
 
 // Makes the registers and local slots their own origins, and the other cells unknown.
 pub fn own_origins(cells: &mut [Origin]) -> Result<(), Refusal>
-    ensures { (result ≡ judged_cells (length cells.old)) × (OwnOrigins result cells.old cells.new) }
+    ensures answer { result ≡ judged_cells (length cells.old) }
+    ensures cells { OwnOrigins result cells.old cells.new }
 {
     Bench::check(cells)?;
-    for i in 0..REGISTERS {
-        cells[i as usize] = Origin::Register(Register(i));
-    }
-    for i in 0..LOCAL_SLOTS {
-        cells[LOCALS + i as usize] = Origin::Local(LocalSlot(i));
-    }
-    for i in OUTGOING..CELLS {
-        cells[i] = Origin::Unknown;
+    for (place, cell) in cells.iter_mut().enumerate() {
+        *cell = own_origin(place);
     }
     Ok(())
+}
+
+// What the cell of a place holds that is its own origin; beyond the local slots that is unknown.
+fn own_origin(place: usize) -> Origin
+    ensures { result ≡ own_origin place }
+{
+    match place {
+        0..LOCALS => Origin::Register(Register(place as u8)),
+        LOCALS..OUTGOING => Origin::Local(LocalSlot((place - LOCALS) as u16)),
+        _ => Origin::Unknown,
+    }
 }

@@ -8,5 +8,5 @@ use machine::limits::{RESERVE_UNIT, SLOT_BYTES};
 pub fn bytes_for(slots: u8) -> u16
     ensures { result ≡ bytes_for slots }
 {
-    RESERVE_UNIT * ((SLOT_BYTES * slots as u16 + (RESERVE_UNIT - 1)) / RESERVE_UNIT)
+    RESERVE_UNIT * (SLOT_BYTES * u16::from(slots)).div_ceil(RESERVE_UNIT)
 }

@@ -1,14 +1,14 @@
 // The arguments of a call, filled in from a convention and a list.
-ghost use Rattle.std.specs.Prelude.{◌≡◌, ◌+◌, ◌≤◌, ◌++◌, length, take};
-ghost use Rattle.conventions.specs.Calls.{Called, all_usable, arguments_in, given_arguments, hidden_arguments, source_usable};
+ghost use Rattle.std.specs.Prelude.{◌≡◌, ◌+◌, ◌≤◌, ◌++◌, ◌↔◌, length, IfOk, IsOk, OnOk};
+ghost use Rattle.conventions.specs.Calls.{Called, all_usable, arguments_in, arguments_of, given_arguments, hidden_arguments, source_usable};
 ghost use Rattle.conventions.specs.Conventions.{argument_limit};
 ghost use Rattle.conventions.specs.Lists.{listed};
 
 use crate::arguments::{Argument, Place, Source};
 use crate::calls::Arguments;
 use crate::conventions::Convention;
-use crate::limits::ARGUMENTS;
 use crate::lists::ArgumentList;
+use bounded_lists::lists::{BoundedList, Full};
 use machine::places::{Register, RegisterSet};
 use machine::refusals::Refusal;
 
@@ -17,7 +17,7 @@ impl Arguments {
     pub fn entries(&self) -> &[Argument]
         ensures { result.now ≡ arguments_in self.now }
     {
-        &self.entries[..self.count as usize]
+        self.entries.items()
     }
 }
 
@@ -34,67 +34,66 @@ fn source_usable(usable: RegisterSet, source: Source) -> bool
 fn all_usable(usable: RegisterSet, sources: &[Source]) -> bool
     ensures { result ≡ all_usable usable.0 sources.now }
 {
-    for source in sources {
-        if !source_usable(usable, *source) {
-            return false;
-        }
-    }
-    true
+    sources.iter().all(|source| source_usable(usable, *source))
 }
 
-// Fills the first entries with the hidden arguments.
-fn fill_hidden<C: Convention>(convention: &C, hidden: u8, entries: &mut [Argument])
-    requires { hidden ≤ length entries.old }
-    ensures { take hidden entries.new ≡ hidden_arguments (C.answers convention.now) hidden }
+// Adds the hidden arguments, or tells that the list was full.
+fn fill_hidden<C: Convention>(convention: &C, arguments: &mut Arguments) -> Result<(), Full>
+    ensures ok { OnOk result (arguments_in arguments.new ≡ arguments_in arguments.old ++ hidden_arguments (C.answers convention.now) (C.answers convention.now).hidden) }
+    ensures room { IsOk result ↔ (length (arguments_in arguments.old) + (C.answers convention.now).hidden ≤ argument_limit) }
 {
-    for i in 0..hidden {
-        entries[i as usize] = Argument {
+    for i in 0..convention.hidden() {
+        arguments.entries.push(Argument {
             place: convention.hidden_place(i),
             source: convention.hidden_source(i),
-        };
+        })?;
     }
+    Ok(())
 }
 
-// Fills the entries from `first` on with the given arguments, and keeps those before.
+// Adds the given arguments, or tells that the list was full.
 fn fill_given<C: Convention>(
     convention: &C,
     sources: &[Source],
-    first: u8,
-    entries: &mut [Argument],
-)
-    requires few { length sources.now ≤ argument_limit }
-    requires fits { first + length sources.now ≤ length entries.old }
-    ensures { take (first + length sources.now) entries.new
-        ≡ take first entries.old ++ given_arguments (C.answers convention.now) 0 sources.now }
+    arguments: &mut Arguments,
+) -> Result<(), Full>
+    ensures ok { OnOk result (arguments_in arguments.new ≡ arguments_in arguments.old ++ given_arguments (C.answers convention.now) 0 sources.now) }
+    ensures room { IsOk result ↔ (length (arguments_in arguments.old) + length sources.now ≤ argument_limit) }
 {
     for (i, source) in sources.iter().enumerate() {
-        entries[first as usize + i] = Argument {
+        arguments.entries.push(Argument {
             place: convention.place(i as u8),
             source: *source,
-        };
+        })?;
     }
+    Ok(())
+}
+
+// The hidden arguments, then the given, if they are not too many.
+fn filled<C: Convention>(convention: &C, sources: &[Source]) -> Result<Arguments, Full>
+    ensures ok { IfOk result (λ t. arguments_in t ≡ arguments_of (C.answers convention.now) sources.now) }
+    ensures room { IsOk result ↔ ((C.answers convention.now).hidden + length sources.now ≤ argument_limit) }
+{
+    let filler = Argument {
+        place: Place::Register(Register(0)),
+        source: Source::Number(0),
+    };
+    let mut arguments = Arguments {
+        entries: BoundedList::new(filler),
+    };
+    fill_hidden(convention, &mut arguments)?;
+    fill_given(convention, sources, &mut arguments)?;
+    Ok(arguments)
 }
 
 // The arguments of a call with the listed sources given.
 pub fn arguments<C: Convention>(convention: &C, list: &ArgumentList) -> Result<Arguments, Refusal>
     ensures { Called (C.answers convention.now) (listed list.now) result }
 {
-    let hidden = convention.hidden();
     let sources = list.sources();
-    if hidden as usize + sources.len() > ARGUMENTS as usize {
-        return Err(Refusal::TooManyArguments);
-    }
+    let arguments = filled(convention, sources).map_err(|_| Refusal::TooManyArguments)?;
     if !all_usable(convention.usable(), sources) {
         return Err(Refusal::NotUsable);
     }
-    let mut entries = [Argument {
-        place: Place::Register(Register(0)),
-        source: Source::Number(0),
-    }; ARGUMENTS as usize];
-    fill_hidden(convention, hidden, &mut entries);
-    fill_given(convention, sources, hidden, &mut entries);
-    Ok(Arguments {
-        entries,
-        count: hidden + list.len(),
-    })
+    Ok(arguments)
 }

@@ -3,8 +3,8 @@ ghost use Rattle.std.specs.Prelude.{◌≡◌, [], length};
 ghost use Rattle.conventions.specs.Lists.{Added, listed, source_verdict};
 
 use crate::arguments::Source;
-use crate::limits::ARGUMENTS;
 use crate::lists::ArgumentList;
+use bounded_lists::lists::BoundedList;
 use machine::limits::{LOCAL_SLOTS, REGISTERS};
 use machine::places::{LocalSlot, Register};
 use machine::refusals::Refusal;
@@ -26,8 +26,7 @@ impl ArgumentList {
         ensures { listed result ≡ [] }
     {
         ArgumentList {
-            sources: [Source::Number(0); ARGUMENTS as usize],
-            count: 0,
+            sources: BoundedList::new(Source::Number(0)),
         }
     }
 
@@ -35,16 +34,10 @@ impl ArgumentList {
     pub fn add(&mut self, source: Source) -> Result<(), Refusal>
         ensures { Added source result self.old self.new }
     {
-        if self.count >= ARGUMENTS {
-            return Err(Refusal::ListFull);
-        }
-        judge(source)?;
         let mut sources = self.sources;
-        sources[self.count as usize] = source;
-        *self = ArgumentList {
-            sources,
-            count: self.count + 1,
-        };
+        sources.push(source).map_err(|_| Refusal::ListFull)?;
+        judge(source)?;
+        *self = ArgumentList { sources };
         Ok(())
     }
 
@@ -52,12 +45,12 @@ impl ArgumentList {
     pub fn sources(&self) -> &[Source]
         ensures { result.now ≡ listed self.now }
     {
-        &self.sources[..self.count as usize]
+        self.sources.items()
     }
 
     pub fn len(&self) -> u8
         ensures { result ≡ length (listed self.now) }
     {
-        self.count
+        self.sources.len() as u8
     }
 }

@@ -1,9 +1,9 @@
 // Carrying out choices until nothing is pending.
-ghost use Rattle.std.specs.Prelude.{◌≡◌, ◌+◌, ◌≤◌, ◌++◌, length};
+ghost use Rattle.std.specs.Prelude.{◌≡◌, ◌+◌, ◌≤◌, ◌++◌, length, Some};
 ghost use Rattle.order.specs.Order.{choices};
 ghost use Rattle.order.specs.Tables.{fill, given, next_table, settle, spilled};
 ghost use Rattle.moves.specs.Limits.{move_limit};
-ghost use Rattle.moves.specs.Lists.{moves_in};
+ghost use Rattle.moves.specs.Lists.{Adds, HasRoom, moves_in};
 ghost use Rattle.moves.specs.Tables.{Settled, choice_in, table_in};
 ghost use Rattle.moves.specs.Wants.{wants_in};
 
@@ -28,20 +28,20 @@ fn fill(to: Register, place: Place) -> Step
 
 // How many rings a choice opens through the scratch.
 fn rings_spilled(choice: Choice) -> u8
-    ensures { result ≡ length (spilled (choice_in choice)) }
+    ensures { result ≡ length (spilled (choice_in (Some choice))) }
 {
     match choice {
         Choice::Spill(_) => 1,
-        Choice::Take(_) | Choice::Reload(_, _) | Choice::Finished => 0,
+        Choice::Take(_) | Choice::Reload(_, _) => 0,
     }
 }
 
 impl PendingMoves {
     // Adds the move of a choice, and turns the readers that it concerns.
     fn carry_out(&mut self, choice: Choice, scratch: Register, moves: &mut MoveList)
-        requires { length (moves_in moves.old) + length (given scratch.0 (choice_in choice) (table_in self.old)) ≤ move_limit }
-        ensures table { table_in self.new ≡ next_table scratch.0 (choice_in choice) (table_in self.old) }
-        ensures moves { moves_in moves.new ≡ moves_in moves.old ++ given scratch.0 (choice_in choice) (table_in self.old) }
+        requires { HasRoom moves.old (given scratch.0 (choice_in (Some choice)) (table_in self.old)) }
+        ensures table { table_in self.new ≡ next_table scratch.0 (choice_in (Some choice)) (table_in self.old) }
+        ensures moves { Adds (given scratch.0 (choice_in (Some choice)) (table_in self.old)) moves.old moves.new }
     {
         match choice {
             Choice::Take(register) => {
@@ -56,22 +56,21 @@ impl PendingMoves {
                 moves.push(fill(scratch, Place::Register(register)));
                 self.turn(Place::Register(register), Place::Register(scratch));
             }
-            Choice::Finished => {}
         }
     }
 
     // Adds the moves that settle the table, and tells how many rings were opened through the scratch.
-    pub(crate) fn settle(&mut self, wants: &Wants, scratch: Register, moves: &mut MoveList) -> u8
-        requires { length (moves_in moves.old) + length (settle (wants_in wants.now) scratch.0 choices (table_in self.old)) ≤ move_limit }
-        ensures { Settled (wants_in wants.now) scratch.0 choices (table_in self.old) (moves_in moves.old) (moves_in moves.new) result }
+    pub(crate) fn settle(&mut self, wants: &Wants, moves: &mut MoveList) -> u8
+        requires { HasRoom moves.old (settle (wants_in wants.now) wants.now.scratch.0 choices (table_in self.old)) }
+        ensures { Settled (wants_in wants.now) wants.now.scratch.0 choices (table_in self.old) (moves_in moves.old) (moves_in moves.new) result }
     {
         let mut rings = 0;
+        // so many choices, as the definition of the order has them; no index
         for _ in 0..CHOICES {
-            let choice = self.choose(wants);
-            if let Choice::Finished = choice {
+            let Some(choice) = self.choose(wants) else {
                 break;
-            }
-            self.carry_out(choice, scratch, moves);
+            };
+            self.carry_out(choice, wants.scratch, moves);
             rings += rings_spilled(choice);
         }
         rings

@@ -9,6 +9,7 @@ use crate::wants::Wants;
 use conventions::arguments::{Place, Source};
 use machine::limits::REGISTERS;
 use machine::places::Register;
+use std::array;
 
 // A register with another register as its source is pending; any other names itself.
 fn pending_source(register: Register, want: Option<Source>) -> Place
@@ -25,24 +26,23 @@ impl PendingMoves {
     pub(crate) fn of(wants: &Wants) -> PendingMoves
         ensures { table_in result ≡ opening_table (wants_in wants.now) }
     {
-        let mut moves = [PendingMove {
-            from: Place::Register(Register(0)),
-        }; REGISTERS as usize];
-        for r in 0..REGISTERS {
-            moves[r as usize].from = pending_source(Register(r), wants.register(Register(r)));
+        PendingMoves {
+            moves: array::from_fn(|r| {
+                let register = Register(r as u8);
+                PendingMove {
+                    from: pending_source(register, wants.register(register)),
+                }
+            }),
         }
-        PendingMoves { moves }
     }
 
     // The present source of a register.
     pub(crate) fn source(&self, register: Register) -> Place
         ensures { result ≡ table_in self.now register.0 }
     {
-        if register.0 < REGISTERS {
-            self.moves[register.0 as usize].from
-        } else {
-            Place::Register(register)
-        }
+        self.moves
+            .get(register.0 as usize)
+            .map_or(Place::Register(register), |pending| pending.from)
     }
 
     pub(crate) fn is_pending(&self, register: Register) -> bool
@@ -51,7 +51,7 @@ impl PendingMoves {
         self.source(register) != Place::Register(register)
     }
 
-    // Turns the pending moves that read `from` to read `to`.
+    // Turns the pending moves that read `from` to read `to`: an element's source is changed through `&mut self`, as the project asks for here.
     pub(crate) fn turn(&mut self, from: Place, to: Place)
         ensures { table_in self.new ≡ turned from to (table_in self.old) }
     {

@@ -9,17 +9,18 @@ ghost use Rattle.moves.specs.Wants.{wants_in};
 use crate::wants::Wants;
 use conventions::arguments::{Argument, Place};
 use machine::limits::{OUTGOING_SLOTS, REGISTERS};
+use machine::places::Register;
 
 impl Wants {
     // From the last argument to the first, each in its own place.
-    pub(crate) fn of(arguments: &[Argument]) -> Wants
+    pub(crate) fn of(arguments: &[Argument], scratch: Register) -> Wants
         requires { AllByRecursion (λ a. place_in_range outgoing_slots a.place ≡ true) arguments.now }
-        ensures { wants_in result ≡ wants arguments.now }
+        ensures wants { wants_in result ≡ wants arguments.now }
+        ensures scratch { result.scratch ≡ scratch }
     {
         let mut by_register = [None; REGISTERS as usize];
         let mut by_slot = [None; OUTGOING_SLOTS as usize];
-        for i in (0..arguments.len()).rev() {
-            let argument = arguments[i];
+        for argument in arguments.iter().rev() {
             match argument.place {
                 Place::Register(register) => by_register[register.0 as usize] = Some(
                     argument.source,
@@ -30,6 +31,7 @@ impl Wants {
         Wants {
             by_register,
             by_slot,
+            scratch,
         }
     }
 }

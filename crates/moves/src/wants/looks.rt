@@ -10,16 +10,6 @@ use conventions::arguments::Source;
 use machine::limits::{OUTGOING_SLOTS, REGISTERS};
 use machine::places::{OutgoingSlot, Register};
 
-// Whether the source wanted is this one.
-fn is_source(want: Option<Source>, source: Source) -> bool
-    ensures { result ≡ is_source want source }
-{
-    match want {
-        Some(wanted) => wanted == source,
-        None => false,
-    }
-}
-
 // Whether the source is a number or a local slot.
 pub(crate) fn is_value(source: Source) -> bool
     ensures { result ≡ is_value source }
@@ -30,68 +20,45 @@ pub(crate) fn is_value(source: Source) -> bool
     }
 }
 
-// Whether the slot found is this one.
-fn is_slot(found: Option<OutgoingSlot>, slot: OutgoingSlot) -> bool
-    ensures { result ≡ is_index (slot_number found) slot.0 }
-{
-    match found {
-        Some(lowest) => lowest.0 == slot.0,
-        None => false,
-    }
-}
-
+// A register and an outgoing slot are never taken for one another: what is asked of either is a function of its own.
 impl Wants {
     // What a register is to hold.
     pub(crate) fn register(&self, register: Register) -> Option<Source>
         ensures { result ≡ (wants_in self.now).register register.0 }
     {
-        if register.0 < REGISTERS {
-            self.by_register[register.0 as usize]
-        } else {
-            None
-        }
+        self.by_register.get(register.0 as usize).copied().flatten()
     }
 
     // What an outgoing slot is to hold.
     pub(crate) fn outgoing(&self, slot: OutgoingSlot) -> Option<Source>
         ensures { result ≡ (wants_in self.now).outgoing slot.0 }
     {
-        if slot.0 < OUTGOING_SLOTS {
-            self.by_slot[slot.0 as usize]
-        } else {
-            None
-        }
+        self.by_slot.get(slot.0 as usize).copied().flatten()
     }
 
     // The lowest register that wants the source.
     pub(crate) fn lowest_register(&self, source: Source) -> Option<Register>
         ensures { register_number result ≡ lowest_register (wants_in self.now) source }
     {
-        for r in 0..REGISTERS {
-            if is_source(self.by_register[r as usize], source) {
-                return Some(Register(r));
-            }
-        }
-        None
+        (0..REGISTERS)
+            .find(|r| self.register(Register(*r)) == Some(source))
+            .map(Register)
     }
 
     // The lowest outgoing slot that wants the source.
     pub(crate) fn lowest_slot(&self, source: Source) -> Option<OutgoingSlot>
         ensures { slot_number result ≡ lowest_slot (wants_in self.now) source }
     {
-        for o in 0..OUTGOING_SLOTS {
-            if is_source(self.by_slot[o as usize], source) {
-                return Some(OutgoingSlot(o));
-            }
-        }
-        None
+        (0..OUTGOING_SLOTS)
+            .find(|o| self.outgoing(OutgoingSlot(*o)) == Some(source))
+            .map(OutgoingSlot)
     }
 
     // Whether an outgoing slot wants the source.
     pub(crate) fn slot_wants(&self, slot: OutgoingSlot, source: Source) -> bool
         ensures { result ≡ is_source ((wants_in self.now).outgoing slot.0) source }
     {
-        is_source(self.outgoing(slot), source)
+        self.outgoing(slot) == Some(source)
     }
 
     // Whether the slot is the lowest of a number or local slot that no register wants.
@@ -100,6 +67,6 @@ impl Wants {
     {
         is_value(source)
             && self.lowest_register(source).is_none()
-            && is_slot(self.lowest_slot(source), slot)
+            && self.lowest_slot(source) == Some(slot)
     }
 }

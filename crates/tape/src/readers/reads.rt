@@ -1,5 +1,4 @@
 // Reading one command after another.
-ghost use Rattle.std.specs.Prelude.{◌≡◌, ◌<◌, length, Err};
 ghost use Rattle.tape.specs.Readers.{Asked, Began, Commanded};
 
 use crate::commands::{Command, number};
@@ -12,23 +11,20 @@ use machine::turns::Turn;
 
 // The step whose command the bytes begin with.
 fn first_step(bytes: &[u8]) -> Result<Step, Refusal>
-    requires { 0 < length bytes.now }
     ensures { Commanded bytes.now result }
 {
-    let Some(opcode) = Opcode::at(bytes[0]) else {
-        return Err(Refusal::UnknownCommand);
-    };
-    let middle = 1 + opcode.first_width();
-    let end = middle + opcode.second_width();
-    if bytes.len() < end {
-        return Err(Refusal::CutShort);
-    }
-    let first = number(&bytes[1..middle]);
-    let second = number(&bytes[middle..end]);
+    let (byte, operands) = bytes.split_first().ok_or(Refusal::CutShort)?;
+    let opcode = Opcode::try_from(*byte)?;
+    let (first, others) = operands
+        .split_at_checked(opcode.first_width())
+        .ok_or(Refusal::CutShort)?;
+    let (second, _) = others
+        .split_at_checked(opcode.second_width())
+        .ok_or(Refusal::CutShort)?;
     let command = Command {
         opcode,
-        first,
-        second,
+        first: number(first),
+        second: number(second),
     };
     Ok(command.step())
 }
@@ -52,32 +48,33 @@ impl<'a> Reader<'a> {
         let tape = self.tape;
         let place = self.place;
         if tape.len() > TAPE_LIMIT {
-            return refused(Refusal::TooLong, 0);
+            return Err(Fault {
+                refusal: Refusal::TooLong,
+                place: 0,
+            });
         }
+        let fault = |refusal| Fault { refusal, place };
         if place == tape.len() {
             return match self.turn {
                 Turn::Bare => Ok(None),
-                Turn::Reserved(_) | Turn::Called(_) => refused(Refusal::OutOfTurn, place),
+                Turn::Reserved(_) | Turn::Called(_) => Err(fault(Refusal::OutOfTurn)),
             };
         }
-        let step = match first_step(&tape[place..]) {
-            Ok(step) => step,
-            Err(refusal) => return refused(refusal, place),
-        };
+        let step = first_step(&tape[place..]).map_err(fault)?;
         if !step.in_range(self.turn) {
-            return refused(Refusal::OutOfRange, place);
+            return Err(fault(Refusal::OutOfRange));
         }
+        // the turn is matched here with the step in place, as the project asks
         let next = match (self.turn, step) {
             (Turn::Bare, Step::Reserve { bytes }) => Turn::Reserved(bytes),
             (Turn::Called(held), Step::Pop { bytes }) if bytes == held => Turn::Bare,
-            (_, Step::Reserve { .. } | Step::Pop { .. }) | (Turn::Called(_), _) => return refused(
+            (_, Step::Reserve { .. } | Step::Pop { .. }) | (Turn::Called(_), _) => return Err(fault(
                 Refusal::OutOfTurn,
-                place,
-            ),
+            )),
             (Turn::Reserved(held), Step::Call { .. }) => Turn::Called(held),
             (turn, _) => turn,
         };
-        let end = place + Command::of(step).size();
+        let end = place + Command::from(step).size();
         self.place = end;
         self.turn = next;
         Ok(Some(Part {
@@ -86,10 +83,4 @@ impl<'a> Reader<'a> {
             step,
         }))
     }
-}
-
-fn refused<'a>(refusal: Refusal, place: usize) -> Result<Option<Part<'a>>, Fault>
-    ensures { result ≡ Err (record { refusal = refusal; place = place }) }
-{
-    Err(Fault { refusal, place })
 }

@@ -17,7 +17,8 @@ use machine::turns::Turn;
 impl<'a> Tape<'a> {
     // A new tape, with nothing on it.
     pub fn open(buffer: &'a mut [u8]) -> Tape<'a>
-        ensures { (Opened buffer.old result) × (result.buffer.ghost_name ≡ buffer.entry.ghost_name) }
+        ensures opened { Opened buffer.old result }
+        ensures lent { result.buffer.ghost_name ≡ buffer.entry.ghost_name }
     {
         Tape {
             buffer,
@@ -30,7 +31,7 @@ impl<'a> Tape<'a> {
     pub fn bytes(&self) -> &[u8]
         ensures { result.now ≡ take self.now.used self.now.buffer.now }
     {
-        &self.buffer[0..self.used]
+        &self.buffer[..self.used]
     }
 
     // Writes the command of a step that is in range and in turn, and goes on to the turn that it leaves.
@@ -39,11 +40,10 @@ impl<'a> Tape<'a> {
         requires room { self.old.used + longest_command ≤ length self.old.buffer.now }
         ensures { Ran tape_meaning (step ∷ []) self.old self.new }
     {
-        let command = Command::of(step);
-        for i in 0..command.size() {
-            self.buffer[self.used + i] = command.byte(i);
-        }
-        self.used += command.size();
+        let command = Command::from(step);
+        let end = self.used + command.size();
+        command.write(&mut self.buffer[self.used..end]);
+        self.used = end;
         self.turn = next;
     }
 }
@@ -55,6 +55,7 @@ impl<'a> Emitter for Tape<'a> {
         if !step.in_range(self.turn) {
             return Err(Refusal::OutOfRange);
         }
+        // the turn is matched here with the step in place, as the project asks
         let next = match (self.turn, step) {
             (Turn::Bare, Step::Reserve { bytes }) => Turn::Reserved(bytes),
             (Turn::Called(held), Step::Pop { bytes }) if bytes == held => Turn::Bare,

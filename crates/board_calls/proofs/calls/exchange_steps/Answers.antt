@@ -1,5 +1,4 @@
 use Rattle.std.proofs.Common.{ap, ◌∙◌}
-use Rattle.std.proofs.lemmas.Result.{IfOk-at_ok}
 use Rattle.moves.specs.Lists.{moves_in}
 use Rattle.board_calls.specs.Calls.{call_steps}
 use Rattle.board_calls.proofs.calls.exchange_steps.Goals as goal
@@ -10,7 +9,7 @@ returns g c =
       sources = c.in_ok-sources.sources;
       plan = c.in_ok-plan.plan;
       moves = c.plan.new.moves;
-      exchanged = IfOk-at_ok _ c.in_ok-sources.ensures c.exchange.ensures;
-      accepted = IfOk-at_ok _ c.in_ok-plan.ensures c.plan.ensures;
+      exchanged = c.in_ok-sources.ensures;
+      accepted = c.in_ok-plan.ensures;
       are = c.in_ok-call_steps.ensures ∙ ap (call_steps c.in_ok-plan.plan.bytes (moves_in c.plan.new.moves) c.args.routine) c.lost.ensures;
     }

@@ -15,7 +15,7 @@ use Rattle.slip.proofs.wheels.see.Goals as goal
 pub returns-in_err-give : goal.returns-in_err-give
 returns-in_err-give g c =
     let p = err_from_is_err_and c.from_residual-in_err-give.result c.from_residual-in_err-give.ensures.1 in
-    let opened = c.make-bench.ensures.0 in
+    let opened = c.make-bench.ensures.opened in
     let passed = c.in_ok-check.ensures in
     let whole : eqb (length c.args.cells.now) cell_count ≡ true = grind (arith, nat_tests, passed) in
     rw (p.1, p.2)
@@ -27,7 +27,7 @@ pub returns : goal.returns
 returns g c =
     let stands = g.W.WordKind.stands in
     let ran = c.in_ok-give.ensures.did in
-    let opened = c.make-bench.ensures.0 in
+    let opened = c.make-bench.ensures.opened in
     let after : (s : Start) → (bench_meaning stands).state c.give.new.emitter s ≡ run c.args.steps.now (loaded (words (λ d. stands d s) c.args.cells.now)) =
     λ s. ran.state s ∙ ap (run c.args.steps.now) (opened.state s) in
     let first = MatchOption-at_some _ _ _ c.unwrap.ensures c.seen_register.ensures in

@@ -1,20 +1,12 @@
-use Rattle.std.proofs.Common.{sym, arith}
-use Rattle.std.proofs.lemmas.Bool.{lt-leb}
-use Rattle.std.proofs.lemmas.Bool.Decides.{nat_tests}
-use Rattle.tape.proofs.Encoding.{length-left, length-left_none}
+use Rattle.std.proofs.Common.{◌+◌, length, leb, ap, ◌∙◌, rules}
+use Rattle.std.specs.List.{flat_map}
+use Rattle.tape.specs.Limits.{longest_command}
+use Rattle.tape.specs.Commands.{encode}
+use Rattle.tape.proofs.Leaving.{leaves}
 use Rattle.tape.proofs.whole.leaves_spare.Goals as goal
-
-pub returns-then-free-size : goal.returns-then-free-size
-returns-then-free-size c =
-    let left = length-left c.args.steps.now _ _ _ c.loop-step-test.true c.of.ensures.is in
-    sym (lt-leb _ _ (omega arith))
-
-pub loop-step-preserved : goal.loop-step-preserved
-loop-step-preserved c =
-    let left = length-left c.args.steps.now _ _ _ c.loop-step-test.true c.of.ensures.is in
-    omega arith
 
 pub returns : goal.returns
 returns c =
-    let left = length-left_none c.args.steps.now _ c.loop-step-test.false in
-    grind (arith, nat_tests)
+    let ran = c.try_fold.ensures.ran in
+    leaves _ (λ p q x turn. search rules) _ _ ran.0 ran.1 _ c.args.space _ c.iter.result _ c.try_fold.result c.is_some_and.result ran.4 ran.5 ran.6 (λ x b. search rules) c.is_some_and.ensures (λ a t. search rules)
+    ∙ ap (λ ps. leb (length (flat_map encode ps) + longest_command) c.args.space) c.iter.ensures.rest

@@ -2,7 +2,7 @@ use Rattle.std.proofs.Common.{Ok, Err, sym, subst}
 use Rattle.std.proofs.lemmas.Result.{err_from_is_err_and}
 use Rattle.tape.specs.Whole.{tape_reads}
 use Rattle.tape.specs.declared.errors.ReadError.TheVariants.{Refused}
-use Rattle.tape.proofs.Rounds.{accepted, read_as, refused}
+use Rattle.tape.proofs.Rounds.{read_as, refused}
 use Rattle.tape.proofs.Through.{Through, asked_as, part_falls, through_end, through_fault, through_more}
 use Rattle.tape.proofs.whole.read_tape.Goals as goal
 
@@ -17,12 +17,6 @@ returns-in_err-part c =
     let p = err_from_is_err_and c.from_residual-in_err-part.result c.from_residual-in_err-part.ensures.1 in
     let fault = through_fault c.args.tape.now _ _ c.loop-steps.invariant _ _ c.in_err-part.ensures in
     rw (p.1, p.2) (record { answer = fault; round = λ ps. read_as c.args.tape.now (Err (Refused _)) fault ps })
-
-pub returns-in_err-push : goal.returns-in_err-push
-returns-in_err-push c =
-    let p = err_from_is_err_and c.from_residual-in_err-push.result c.from_residual-in_err-push.ensures.1 in
-    let some = accepted (tape_reads c.args.tape.now) c.in_ok-check_tape.ensures in
-    rw (p.1, p.2) (record { answer = some; round = λ ps tape_of. tt })
 
 pub loop-steps-smaller : goal.loop-steps-smaller
 loop-steps-smaller c = part_falls _ _ _ (asked_as _ _ _ _ c.in-Some.is c.in_ok-part.ensures)

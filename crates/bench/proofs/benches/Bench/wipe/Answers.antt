@@ -1,13 +1,18 @@
-use Rattle.std.proofs.Common.{◌+◌, ◌<◌, length, ◌∙◌, arith}
-use Rattle.std.proofs.lemmas.List.{take-set-le}
-use Rattle.bench.proofs.Words.{wiped_more}
-use Rattle.bench.proofs.Rewrites.{rewritten_set}
+use Rattle.std.proofs.Common.{◌≡◌, ◌-◌, length, refl, arith, rules}
+use Rattle.std.proofs.lemmas.Fn.{chained_keeps}
+use Rattle.std.proofs.lemmas.List.{length-take-le}
+use Rattle.machine.specs.Words.{Start}
+use Rattle.bench.proofs.Rewrites.{rewritten_cells}
+use Rattle.bench.proofs.Words.{NoWords, no_words_more, words_wiped}
 use Rattle.bench.proofs.benches.Bench.wipe.Goals as goal
 
-pub loop-i-preserved : goal.loop-i-preserved
-loop-i-preserved g c =
-    let inside : c.args.first + c.loop-i.i < length c.loop-i.self.cells.now = omega (arith, c.loop-i.self.whole) in
-    record {
-      words = rewritten_set g.W.WordKind.stands _ _ _ _ _ _ _ _ _ _ inside c.loop-i.invariant.words (λ s. rw (c.unknown.ensures s) (wiped_more _ _ _));
-      before = take-set-le _ c.loop-i.self.cells.now _ _ (omega arith) ∙ c.loop-i.invariant.before;
-    }
+pub returns-clause-words : goal.returns-clause-words
+returns-clause-words g c =
+    let area = c.args.area in
+    let cells = c.fill_with.new.self in
+    let unknown = c.unknown-unknown in
+    -- the cells filled so far stand for unknown, and the closure still holds the same value
+    let filled = λ (s : Start). chained_keeps _ (λ ys f. (f.0.now ≡ unknown.result) × NoWords (λ d. g.W.WordKind.stands d s) ys)
+    (λ ys f y next kept made. let is : y ≡ unknown.result = search rules in (search rules, no_words_more _ ys y kept.1 (rw is (unknown.ensures s)))) _ _ _ (refl, λ k. refl) c.fill_with.ensures.ran.1 in
+    let many : length cells ≡ area.end - area.start = grind (arith, length-take-le {A = g.row.W.Denot}) in
+    rewritten_cells (λ s. words_wiped (λ d. g.W.WordKind.stands d s) c.args.self.now.cells.now cells area.start _ many (omega (arith, c.args.self.now.whole)) (filled s).1)

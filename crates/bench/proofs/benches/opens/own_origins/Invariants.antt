@@ -1,13 +1,7 @@
-use Rattle.machine.specs.Limits.{local_slots, registers}
-use Rattle.bench.specs.Cells.{first_outgoing}
-use Rattle.bench.proofs.Owning.{Owning}
+use Rattle.std.proofs.Common.{◌≡◌, ℕ, ◌<◌, get_or}
+use Rattle.bench.specs.Origins.{own_origin}
+use Rattle.bench.specs.declared.origins.Origin.TheVariants.{Unknown}
 use Rattle.bench.proofs.benches.opens.own_origins.Given as goal
 
-abbrev pub invariant-loop-i : goal.invariant-loop-i
-invariant-loop-i l = Owning l.i 0 first_outgoing l.cells
-
-abbrev pub invariant-loop-i-2 : goal.invariant-loop-i-2
-invariant-loop-i-2 l = Owning registers l.i first_outgoing l.cells
-
-abbrev pub invariant-loop-i-3 : goal.invariant-loop-i-3
-invariant-loop-i-3 l = Owning registers local_slots l.i l.cells
+abbrev pub invariant-loop-place : goal.invariant-loop-place
+invariant-loop-place l = (k : ℕ) → k < l.place → get_or l.cells k Unknown ≡ own_origin k

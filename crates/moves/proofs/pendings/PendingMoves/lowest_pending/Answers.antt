@@ -1,17 +1,15 @@
-use Rattle.std.proofs.Common.{sym, refl}
+use Rattle.std.proofs.Common.{◌≡◌, true, false, ◌∙◌, rules, tests}
+use Rattle.std.proofs.lemmas.Iterator.{first_from_Range}
 use Rattle.machine.specs.Limits.{registers}
-use Rattle.order.specs.Indices.{first}
 use Rattle.order.specs.Tables.{pending}
-use Rattle.order.proofs.Indices.{first_hit, first_more}
 use Rattle.moves.specs.Tables.{table_in}
+use Rattle.moves.specs.Wants.{register_number}
+use Rattle.moves.proofs.Searching.{first_is}
 use Rattle.moves.proofs.pendings.PendingMoves.lowest_pending.Goals as goal
 
-pub loop-d-init : goal.loop-d-init
-unfolding first
-loop-d-init c = refl
-
-pub returns-then-is_pending : goal.returns-then-is_pending
-returns-then-is_pending c = sym (first_hit (pending (table_in c.args.self.now)) registers _ c.loop-d-test.true c.loop-d.invariant (sym c.if-is_pending.ensures))
-
-pub loop-d-preserved : goal.loop-d-preserved
-loop-d-preserved c = first_more (pending (table_in c.args.self.now)) _ c.loop-d.invariant (sym c.if-is_pending.ensures)
+pub returns : goal.returns
+returns c =
+    let p = pending (table_in c.args.self.now) in
+    let found = first_is p registers c.find.result (first_from_Range _ _ _ _ (λ d. p d ≡ true) (λ d. p d ≡ false) c.find.ensures.ran (λ x q k. search (rules, tests)) (λ x q k. search (rules, tests))) in
+    let mapped : register_number c.map.result ≡ c.find.result = search rules in
+    mapped ∙ found

@@ -7,4 +7,4 @@ use Rattle.moves.proofs.pendings.PendingMoves.settle.Given as goal
 
 abbrev pub invariant-loop : goal.invariant-loop
 invariant-loop l =
-    Carrying (wants_in l.wants) l.scratch.0 choices (table_in l.initial.self) (moves_in l.initial.moves) l.counter (table_in l.self) (moves_in l.moves) l.rings
+    Carrying (wants_in l.wants) l.wants.scratch.0 choices (table_in l.initial.self) (moves_in l.initial.moves) l.counter (table_in l.self) (moves_in l.moves) l.rings

@@ -1,17 +1,14 @@
-use Rattle.std.proofs.Common.{sym, refl}
+use Rattle.std.proofs.Common.{◌≡◌, ℕ, true, false, ◌∙◌, rules, tests}
+use Rattle.std.proofs.lemmas.Iterator.{first_from_Range}
 use Rattle.machine.specs.Limits.{registers}
-use Rattle.order.specs.Indices.{first}
 use Rattle.order.specs.Wants.{is_source}
-use Rattle.order.proofs.Indices.{first_hit, first_more}
-use Rattle.moves.specs.Wants.{wants_in}
+use Rattle.moves.specs.Wants.{register_number, wants_in}
+use Rattle.moves.proofs.Searching.{first_is}
 use Rattle.moves.proofs.wants.Wants.lowest_register.Goals as goal
 
-pub loop-r-init : goal.loop-r-init
-unfolding first
-loop-r-init c = refl
-
-pub returns-then-is_source : goal.returns-then-is_source
-returns-then-is_source c = sym (first_hit (λ r. is_source ((wants_in c.args.self.now).register r) c.args.source) registers _ c.loop-r-test.true c.loop-r.invariant (sym c.if-is_source.ensures))
-
-pub loop-r-preserved : goal.loop-r-preserved
-loop-r-preserved c = first_more (λ r. is_source ((wants_in c.args.self.now).register r) c.args.source) _ c.loop-r.invariant (sym c.if-is_source.ensures)
+pub returns : goal.returns
+returns c =
+    let wanted = λ (i : ℕ). is_source ((wants_in c.args.self.now).register i) c.args.source in
+    let found = first_is wanted registers c.find.result (first_from_Range _ _ _ _ (λ i. wanted i ≡ true) (λ i. wanted i ≡ false) c.find.ensures.ran (λ x q k. search (rules, tests)) (λ x q k. search (rules, tests))) in
+    let mapped : register_number c.map.result ≡ c.find.result = search rules in
+    mapped ∙ found

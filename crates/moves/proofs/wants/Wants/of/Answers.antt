@@ -1,29 +1,25 @@
-use Rattle.std.proofs.lemmas.Bool.{ltb-true}
-use Rattle.machine.specs.Limits.{outgoing_slots, registers}
-use Rattle.conventions.specs.declared.arguments.Place.TheVariants.{Outgoing, Register}
-use Rattle.moves.proofs.Filling.{filling_all, filling_none, filling_register, filling_slot, place_there}
+use Rattle.std.proofs.Common.{rules}
+use Rattle.moves.proofs.Filling.{back_all, back_none, back_register, back_slot, register_there, slot_there}
 use Rattle.moves.proofs.wants.Wants.of.Goals as goal
 
-pub loop-i-init : goal.loop-i-init
-loop-i-init c = filling_none c.args.arguments.now
+pub loop-argument-init : goal.loop-argument-init
+loop-argument-init c = (search rules, back_none c.args.arguments.now _ c.requires (search rules))
 
 pub bounds-by_register-register : goal.bounds-by_register-register
 bounds-by_register-register c =
-    ltb-true _ registers (place_there c.args.arguments.now c.loop-i.i _ c.requires c.loop-i-test.true c.loop-i.auto.i (Register c.in-Register.register) c.in-Register.is)
+    register_there _ _ _ _ _ _ c.loop-argument.invariant.1 c.in-Some.ensures.steps c.in-Register.register c.in-Register.is
 
-pub loop-i-preserved-in-Register : goal.loop-i-preserved-in-Register
-loop-i-preserved-in-Register c =
-    filling_register c.args.arguments.now c.loop-i.i _ c.loop-i-test.true c.loop-i.auto.i _ _ c.loop-i.invariant c.in-Register.register c.in-Register.is
-    (ltb-true _ registers (place_there c.args.arguments.now c.loop-i.i _ c.requires c.loop-i-test.true c.loop-i.auto.i (Register c.in-Register.register) c.in-Register.is))
+pub loop-argument-preserved-in-Register : goal.loop-argument-preserved-in-Register
+loop-argument-preserved-in-Register c =
+    (search rules, back_register _ _ _ _ _ _ c.loop-argument.invariant.1 c.in-Some.ensures.steps c.in-Register.register c.in-Register.is)
 
 pub bounds-by_slot-slot : goal.bounds-by_slot-slot
 bounds-by_slot-slot c =
-    ltb-true _ outgoing_slots (place_there c.args.arguments.now c.loop-i.i _ c.requires c.loop-i-test.true c.loop-i.auto.i (Outgoing c.in-Outgoing.slot) c.in-Outgoing.is)
+    slot_there _ _ _ _ _ _ c.loop-argument.invariant.1 c.in-Some.ensures.steps c.in-Outgoing.slot c.in-Outgoing.is
 
-pub loop-i-preserved : goal.loop-i-preserved
-loop-i-preserved c =
-    filling_slot c.args.arguments.now c.loop-i.i _ c.loop-i-test.true c.loop-i.auto.i _ _ c.loop-i.invariant c.in-Outgoing.slot c.in-Outgoing.is
-    (ltb-true _ outgoing_slots (place_there c.args.arguments.now c.loop-i.i _ c.requires c.loop-i-test.true c.loop-i.auto.i (Outgoing c.in-Outgoing.slot) c.in-Outgoing.is))
+pub loop-argument-preserved : goal.loop-argument-preserved
+loop-argument-preserved c =
+    (search rules, back_slot _ _ _ _ _ _ c.loop-argument.invariant.1 c.in-Some.ensures.steps c.in-Outgoing.slot c.in-Outgoing.is)
 
-pub returns : goal.returns
-returns c = filling_all c.args.arguments.now c.loop-i.i _ _ c.loop-i-test.false c.loop-i.invariant
+pub returns-clause-wants : goal.returns-clause-wants
+returns-clause-wants c = back_all c.args.arguments.now _ _ _ c.in-None.ensures.steps.0 c.loop-argument.invariant.1

@@ -14,6 +14,6 @@ store_all-requires c =
 
 pub returns : goal.returns
 returns c =
-    let stores = each (store_scratch (wants_in c.args.self.now) c.args.scratch.0 c.args.source) outgoing_slots in
+    let stores = each (store_scratch (wants_in c.args.self.now) c.args.self.now.scratch.0 c.args.source) outgoing_slots in
     c.store_all.ensures ∙ ap (λ ps. ps ++ stores) c.push.ensures ∙ append_assoc (moves_in c.args.moves.now) (c.bring.result ∷ []) stores
     ∙ ap (λ p. moves_in c.args.moves.now ++ (p ∷ stores)) c.bring.ensures

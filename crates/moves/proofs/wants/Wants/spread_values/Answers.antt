@@ -7,11 +7,11 @@ use Rattle.moves.proofs.wants.Wants.spread_values.Goals as goal
 use Rattle.moves.proofs.wants.Wants.spread_values.Goals.{in-Some, in_default}
 
 pub loop-o-init : goal.loop-o-init
-loop-o-init c = spreading_none (wants_in c.args.self.now) c.args.scratch.0 (moves_in c.args.moves.now)
+loop-o-init c = spreading_none (wants_in c.args.self.now) c.args.self.now.scratch.0 (moves_in c.args.moves.now)
 
 pub spread-requires : goal.spread-requires
 spread-requires c =
-    spreading_room (wants_in c.args.self.now) c.args.scratch.0 (moves_in c.args.moves.now) c.loop-o.o (moves_in c.loop-o.moves) c.loop-o.values c.loop-o.invariant
+    spreading_room (wants_in c.args.self.now) c.args.self.now.scratch.0 (moves_in c.args.moves.now) c.loop-o.o (moves_in c.loop-o.moves) c.loop-o.values c.loop-o.invariant
     outgoing_slots move_limit c.in-Some.source c.loop-o-test.true c.in-Some.ensures c.requires
 
 pub loop-o-preserved : goal.loop-o-preserved
@@ -21,8 +21,8 @@ loop-o-preserved c =
     elim c.match-spread_from.branch [
       | in-Some way ↦
           rw (way.moves-is, way.values-is)
-          (spreading_more w c.args.scratch.0 before c.loop-o.o (moves_in c.loop-o.moves) c.loop-o.values c.loop-o.invariant way.in-Some.source _ way.in-Some.ensures way.spread.ensures)
+          (spreading_more w c.args.self.now.scratch.0 before c.loop-o.o (moves_in c.loop-o.moves) c.loop-o.values c.loop-o.invariant way.in-Some.source _ way.in-Some.ensures way.spread.ensures)
       | in_default way ↦
           rw (way.moves-is, way.values-is)
-          (spreading_pass w c.args.scratch.0 before c.loop-o.o (moves_in c.loop-o.moves) c.loop-o.values c.loop-o.invariant way.in_default.ensures)
+          (spreading_pass w c.args.self.now.scratch.0 before c.loop-o.o (moves_in c.loop-o.moves) c.loop-o.values c.loop-o.invariant way.in_default.ensures)
     ]

@@ -8,4 +8,4 @@ invariant_of-result c = record { within = omega arith; whole = refl; fit = refl;
 
 pub returns : goal.returns
 unfolding read
-returns c = (record { bytes = refl; used = refl; steps = refl; turn = refl }, refl)
+returns c = record { opened = record { bytes = refl; used = refl; steps = refl; turn = refl }; lent = refl }

@@ -1,0 +1,4 @@
+// Lists of bounded length in fixed memory.
+#![tactic(auto)]
+
+pub mod lists;

@@ -1,0 +1,24 @@
+-- The lowest number that passes a test, found by a search through a range. Assumes nothing.
+use Rattle.std.proofs.Common.{◌≡◌, ℕ, ◌<◌, ◌≤◌, Bool, true, false, is_some, Some, None, Option, sym, refl, inl, inr, arith}
+use Rattle.std.specs.Option.{MatchOption}
+use Rattle.machine.specs.declared.places.OutgoingSlot.{OutgoingSlot}
+use Rattle.order.specs.Indices.{first}
+use Rattle.order.proofs.Indices.{cases_option, first_hit, first_some}
+use Rattle.moves.specs.Wants.{slot_number}
+
+-- a slot was found exactly if its number was
+pub slot_there : (o : Option OutgoingSlot) → is_some (slot_number o) ≡ is_some o
+slot_there None = refl
+slot_there (Some o) = refl
+
+none_passes : (p : ℕ → Bool) (n : ℕ) → ((k : ℕ) → k < n → p k ≡ false) → first p n ≡ None
+none_passes p n none =
+    elim (cases_option (first p n)) [
+      | inl s ↦ let low = first_some p n s.0 s.1 in absurd (grind (arith, low.passes, none s.0 low.below))
+      | inr e ↦ e
+    ]
+
+-- what a search through the numbers below n tells of its result
+pub first_is : (p : ℕ → Bool) (n : ℕ) (r : Option ℕ) → MatchOption r ((k : ℕ) → 0 ≤ k → k < n → p k ≡ false) (λ i. (0 ≤ i) × (i < n) × (p i ≡ true) × ((k : ℕ) → 0 ≤ k → k < i → p k ≡ false)) → r ≡ first p n
+first_is p n None none = sym (none_passes p n (λ k h. none k (omega arith) h))
+first_is p n (Some i) found = sym (first_hit p n i found.1 (none_passes p i (λ k h. found.3 k (omega arith) h)) found.2)

@@ -1,9 +1,0 @@
-use Rattle.std.proofs.Common.{◌≡◌, ◌++◌}
-use Rattle.order.specs.Indices.{each}
-use Rattle.order.specs.Order.{store_loaded}
-use Rattle.moves.specs.Lists.{moves_in}
-use Rattle.moves.specs.Wants.{wants_in}
-use Rattle.moves.proofs.wants.Wants.store_values.Given as goal
-
-abbrev pub invariant-loop-o : goal.invariant-loop-o
-invariant-loop-o l = moves_in l.moves ≡ moves_in l.initial.moves ++ each (λ o. store_loaded (wants_in l.self) o ((wants_in l.self).outgoing o)) l.o
