@@ -53,7 +53,7 @@ pub(crate) fn nine_mixed<C: Convention>(convention: &C) -> Result<[Source; 9], R
     ])
 }
 
-// Adds the sources at the end of the list, in their order.
+// Adds the sources at the end of the list, in their order. The tests have a like function; this one has a contract, and a program's functions are not theirs to use.
 fn add_all(list: &mut ArgumentList, sources: &[Source]) -> Result<(), Refusal>
     ensures { OnOk result (listed list.new ≡ listed list.old ++ sources.now) }
 {

@@ -19,7 +19,8 @@ impl fmt::Display for Full {
 
 impl Error for Full {}
 
-// At most N items in their order; what lies behind the last item is filler. An array with a count beside it, since there is no heap here.
+// At most N items in their order; what lies behind the last item is filler. An array with a count beside it: the kit's
+// `ArrayVec` is not `Copy`, which lists in contracts are, and wants a default item. It has no `Model`, which a `Copy` type has only with an inverse, and the filler has none.
 pub struct BoundedList<T, const N: usize> {
     entries: [T; N],
     // how many of the entries are items

@@ -1,21 +1,31 @@
 -- Any table of argument registers makes a lawful convention. Assumes nothing.
-use Rattle.std.specs.Prelude.{◌≡◌, ℕ, zero, suc, ◌-◌, ◌<◌, true, false, not, List, [], ◌∷◌, length, ◌==◌, ◌≢◌, slice_index, refl}
+use Rattle.std.specs.Prelude.{◌≡◌, ℕ, zero, suc, ◌-◌, ◌<◌, true, false, not, List, [], ◌∷◌, length, ◌==◌, ◌≢◌, slice_index, slice_index_or, refl}
 use Rattle.std.proofs.Common.{sym, ap, ◌∙◌, inl, inr, arith, eq-eqb}
+use Rattle.std.proofs.lemmas.List.{get_or-map, length-map}
 use Rattle.std.proofs.lemmas.List.Folds.{list_any_at}
 use Rattle.std.proofs.lemmas.List.Sums.{AllPass-from_list_all}
 use Rattle.std.proofs.lemmas.Bool.{and_parts, cases_lt, not-true}
 use Rattle.std.proofs.lemmas.Bool.Decides.{nat_tests}
 use Rattle.machine.specs.Limits.{registers}
 use Rattle.machine.specs.Places.{holds}
+use Rattle.machine.specs.declared.places.Register.{Register}
 use Rattle.conventions.specs.Boards.{in_order, registers_first}
 use Rattle.conventions.specs.Conventions.{Lawful, place_lawful, place_of}
-use Rattle.conventions.specs.Tables.{all_held, distinct, has}
+use Rattle.conventions.specs.Tables.{all_held, distinct, has, numbers}
 
-first_apart : (r : ℕ) (rs : List ℕ) (j : ℕ) → distinct (r ∷ rs) ≡ true → j < length rs → r ≢ slice_index rs j
-first_apart r rs j apart below same =
-    let none = not-true (has r rs) (and_parts (not (has r rs)) (distinct rs) apart).0 in
+pub length-numbers : (rs : List Register) → length (numbers rs) ≡ length rs
+length-numbers rs = length-map rs (λ r. r.0)
+
+pub get_or-numbers : (rs : List Register) (i : ℕ) → i < length rs → slice_index (numbers rs) i ≡ (slice_index_or rs i (record { 0 = 0 })).0
+get_or-numbers rs i below = get_or-map (λ (r : Register). r.0) rs i (record { 0 = 0 }) 0 below
+
+absent_at : (r : ℕ) (rs : List ℕ) (j : ℕ) → has r rs ≡ false → j < length rs → r ≢ slice_index rs j
+absent_at r rs j none below same =
     let found = list_any_at (λ x. r == x) rs j 0 below (eq-eqb r (slice_index rs j) same) in
     cc (none, found)
+
+first_apart : (r : ℕ) (rs : List ℕ) (j : ℕ) → distinct (r ∷ rs) ≡ true → j < length rs → r ≢ slice_index rs j
+first_apart r rs j apart = absent_at r rs j (not-true (has r rs) (and_parts (not (has r rs)) (distinct rs) apart).0)
 
 distinct_at : (rs : List ℕ) (i j : ℕ) → distinct rs ≡ true → i < length rs → j < length rs → slice_index rs i ≡ slice_index rs j → i ≡ j
 distinct_at [] i j apart i-below j-below same = absurd (omega arith)

@@ -1,4 +1,4 @@
-// The limits of a call. specs/Conventions.antt has them for the contracts.
+// The limits of a call. specs/Conventions.antt has the first for the contracts.
 
 // a call has at most this many arguments, hidden and given
 pub const ARGUMENTS: u8 = 32;

@@ -1,5 +1,5 @@
 -- A walk over a list of steps, one step further, and the turn that it leaves. Assumes nothing.
-use Rattle.std.proofs.Common.{◌≡◌, ℕ, ◌+◌, ◌<◌, true, false, List, [], ◌∷◌, ◌++◌, length, get_or, drop, Ok, Err, Result, refl, ap, ◌∙◌, inl, inr, arith}
+use Rattle.std.proofs.Common.{◌≡◌, ℕ, ◌+◌, ◌<◌, true, List, [], ◌∷◌, ◌++◌, length, get_or, drop, Ok, Err, ap, ◌∙◌, inl, inr, arith}
 use Rattle.std.proofs.lemmas.List.{at_drop_more}
 use Rattle.std.proofs.lemmas.Bool.{cases_Bool}
 use Rattle.machine.specs.States.{State}
@@ -9,7 +9,6 @@ use Rattle.machine.proofs.Runs.{effect_turn}
 use Rattle.machine.specs.declared.refusals.Refusal.{Refusal}
 use Rattle.machine.specs.declared.steps.Step.{Step}
 use Rattle.machine.specs.declared.turns.Turn.{Turn}
-use Rattle.machine.specs.declared.turns.Turn.TheVariants.{Bare, Reserved, Called}
 
 pub walked_cons : (p : Step) (ps : List Step) (t u : Turn) → moved p t ≡ Ok u → walked (p ∷ ps) t ≡ walked ps u
 walked_cons p ps t u e = cc

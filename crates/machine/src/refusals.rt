@@ -40,6 +40,7 @@ pub enum Refusal {
 }
 
 impl Refusal {
+    // A method and no `From`: its name says what it answers.
     pub fn number(self) -> u8
         ensures { result ≡ number self }
     {

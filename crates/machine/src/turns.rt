@@ -27,7 +27,7 @@ impl Turn {
         }
     }
 
-    // The turn that the step leaves, or why it is refused here.
+    // The turn that the step leaves, or why it is refused here, where there is no emitter yet: each emitter and the reader match the two in place, as the project asks.
     pub fn after(self, step: Step) -> Result<Turn, Refusal>
         ensures { result ≡ moved step self }
     {

@@ -18,12 +18,12 @@ module _ (w : Wants) (scratch : ℕ) where
       omega arith
 
   -- the moves before the first part, and after each
-  pub order_joined : (a b c d e : List Step) → a ≡ [] → b ≡ a ++ stored_registers w → c ≡ b ++ spread_values w scratch → d ≡ (c ++ settled w scratch) ++ loaded_registers w → e ≡ d ++ stored_values w → e ≡ order_of w scratch
+  pub order_joined : (a b c d e : List Step) → a ≡ [] → b ≡ a ++ stored_registers w → c ≡ b ++ spread_values w scratch → d ≡ c ++ (settled w scratch ++ loaded_registers w) → e ≡ d ++ stored_values w → e ≡ order_of w scratch
   order_joined a b c d e none first second third fourth =
       let p = stored_registers w in
       let q = spread_values w scratch in
       let r = settled w scratch in
       let s = loaded_registers w in
       let t = stored_values w in
-      fourth ∙ ap (λ x. x ++ t) (third ∙ ap (λ x. (x ++ r) ++ s) (second ∙ ap (λ x. x ++ q) (first ∙ ap (λ x. x ++ p) none)))
-      ∙ append_assoc ((p ++ q) ++ r) s t ∙ append_assoc (p ++ q) r (s ++ t) ∙ append_assoc p q (r ++ (s ++ t))
+      fourth ∙ ap (λ x. x ++ t) (third ∙ ap (λ x. x ++ (r ++ s)) (second ∙ ap (λ x. x ++ q) (first ∙ ap (λ x. x ++ p) none)))
+      ∙ append_assoc (p ++ q) (r ++ s) t ∙ ap (λ x. (p ++ q) ++ x) (append_assoc r s t) ∙ append_assoc p q (r ++ (s ++ t))

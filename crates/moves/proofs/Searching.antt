@@ -1,15 +1,27 @@
 -- The lowest number that passes a test, found by a search through a range. Assumes nothing.
-use Rattle.std.proofs.Common.{◌≡◌, ℕ, ◌<◌, ◌≤◌, Bool, true, false, is_some, Some, None, Option, sym, refl, inl, inr, arith}
+use Rattle.std.proofs.Common.{◌≡◌, ℕ, ◌<◌, ◌≤◌, Bool, true, false, is_some, Some, None, Option, sym, refl, ap, ◌∙◌, inl, inr, arith}
 use Rattle.std.specs.Option.{MatchOption}
+use Rattle.std.proofs.lemmas.Bool.{and_parts}
+use Rattle.machine.specs.Limits.{registers}
 use Rattle.machine.specs.declared.places.OutgoingSlot.{OutgoingSlot}
+use Rattle.conventions.specs.Arguments.{from_register}
 use Rattle.order.specs.Indices.{first}
 use Rattle.order.proofs.Indices.{cases_option, first_hit, first_some}
+use Rattle.order.specs.Tables.{Table, pending}
+use Rattle.order.specs.Wants.{Wants, lowest_slot}
+use Rattle.moves.specs.Tables.{held}
 use Rattle.moves.specs.Wants.{slot_number}
 
 -- a slot was found exactly if its number was
 pub slot_there : (o : Option OutgoingSlot) → is_some (slot_number o) ≡ is_some o
 slot_there None = refl
 slot_there (Some o) = refl
+
+-- the lowest register that is held has a slot that holds it
+pub slot_found : (w : Wants) (t : Table) (d : ℕ) (o : Option OutgoingSlot) → Some d ≡ first (held w t) registers → slot_number o ≡ lowest_slot w (from_register d) → is_some o ≡ true
+slot_found w t d o found is =
+    let low = first_some (held w t) registers d (sym found) in
+    sym (slot_there o) ∙ ap is_some is ∙ (and_parts (pending t d) (is_some (lowest_slot w (from_register d))) low.passes).1
 
 none_passes : (p : ℕ → Bool) (n : ℕ) → ((k : ℕ) → k < n → p k ≡ false) → first p n ≡ None
 none_passes p n none =

@@ -2,8 +2,6 @@
 use Rattle.std.specs.Prelude.{◌≡◌, ℕ, ◌+◌, ◌<◌, Bool, false, cond, not, ◌&&◌, List, ◌++◌, length, is_some, Some, None, Option, ◌==◌, nat_lt, slice_index_or}
 use Rattle.machine.specs.Limits.{registers}
 use Rattle.machine.specs.declared.steps.Step.{Step}
-use Rattle.machine.specs.declared.places.OutgoingSlot.{OutgoingSlot}
-use Rattle.machine.specs.declared.places.Register.{Register as Register'}
 use Rattle.conventions.specs.Arguments.{from_register, in_register}
 use Rattle.conventions.specs.declared.arguments.Place.{Place}
 use Rattle.conventions.specs.declared.arguments.Place.TheVariants.{Register, Outgoing}

@@ -1,16 +1,16 @@
 // A list of moves, as long as any call's.
-ghost use Rattle.std.specs.Prelude.{◌≡◌, ℕ, ◌+◌, ◌<◌, ◌≤◌, List, [], ◌∷◌, ◌++◌, length};
+ghost use Rattle.std.specs.Prelude.{◌≡◌, ℕ, ◌<◌, List, [], ◌∷◌, length};
 ghost use Rattle.order.specs.Indices.{each};
 ghost use Rattle.moves.specs.Limits.{move_limit};
 
-use crate::limits::MOVES;
+use crate::limits::MOVES_LENGTH;
 use bounded_lists::lists::BoundedList;
 use machine::places::Register;
 use machine::steps::Step;
 
 #[derive(Clone, Copy)]
 pub struct MoveList {
-    steps: BoundedList<Step, MOVES>,
+    steps: BoundedList<Step, MOVES_LENGTH>,
 }
 
 impl MoveList {
@@ -61,7 +61,7 @@ impl MoveList {
         }
     }
 
-    // Adds the moves that `give` answers at each number below `end`, upwards.
+    // Adds the moves that `give` answers at each number below `end`, upwards. A loop, so that `give` need only serve these numbers.
     pub(crate) fn push_each<F: Fn(u16) -> Option<Step>>(&mut self, end: u16, give: F)
         requires calls { (i : ℕ) → i < end → F.pre give i }
         requires room { (f : ℕ → List Step) × Gives (F.post give) end f × HasRoom self.old (each f end) }

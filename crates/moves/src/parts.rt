@@ -1,9 +1,8 @@
 // The parts of the order that go through the registers or the outgoing slots, upwards.
-ghost use Rattle.std.specs.Prelude.{◌≡◌, ◌+◌, ◌≤◌, ◌++◌, length};
+ghost use Rattle.std.specs.Prelude.{◌≡◌};
 ghost use Rattle.machine.specs.Limits.{outgoing_slots};
 ghost use Rattle.order.specs.Indices.{each};
 ghost use Rattle.order.specs.Order.{bring, load, loaded_registers, spread_value, spread_values, store_held, store_loaded, store_scratch, stored_registers, stored_values};
-ghost use Rattle.moves.specs.Limits.{move_limit};
 ghost use Rattle.moves.specs.Lists.{Adds, HasRoom, moves_in, optional};
 ghost use Rattle.moves.specs.Parts.{Spread, spread_steps};
 ghost use Rattle.moves.specs.Wants.{wants_in};
@@ -129,7 +128,7 @@ impl Wants {
         ensures { Spread (wants_in self.now) self.now.scratch.0 (moves_in moves.old) (moves_in moves.new) result }
     {
         let mut values = 0;
-        // a loop: a closure could not count the values and write the moves
+        // over the slots' numbers, as in `read_registers`: over `filter_map` the proof did not close
         for o in 0..OUTGOING_SLOTS {
             if let Some(source) = self.spread_from(OutgoingSlot(o)) {
                 self.spread(source, moves);

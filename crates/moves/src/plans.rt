@@ -3,7 +3,7 @@ ghost use Rattle.std.specs.Prelude.{◌≡◌, ◌+◌, ◌≤◌, ◌++◌, len
 ghost use Rattle.conventions.specs.Lists.{listed};
 ghost use Rattle.order.specs.Order.{loaded_registers, opened, order_of, settled, values_spread};
 ghost use Rattle.moves.specs.Limits.{move_limit};
-ghost use Rattle.moves.specs.Lists.{moves_in};
+ghost use Rattle.moves.specs.Lists.{Adds, HasRoom, moves_in};
 ghost use Rattle.moves.specs.Wants.{wants_in};
 ghost use Rattle.moves.specs.Plans.{Planned};
 
@@ -19,7 +19,7 @@ use machine::refusals::Refusal;
 
 #[derive(Clone, Copy, PartialEq, Eq, Debug)]
 pub struct Plan {
-    // the bytes to reserve; 0 is the answer where a call has no outgoing slots
+    // the bytes to reserve; 0 and no `Option` where a call has no outgoing slots: the rules answer a number, and a public field keeps its meaning
     pub bytes: u16,
     // N: the arguments whose source is not their own place
     pub needed: u8,
@@ -38,8 +38,8 @@ struct ScratchLoads {
 
 // Fills the registers: first from one another, then with numbers and local slots. Tells how many rings were opened through the scratch.
 fn fill_registers(wants: &Wants, moves: &mut MoveList) -> u8
-    requires { length (moves_in moves.old) + length (settled (wants_in wants.now) wants.now.scratch.0) + length (loaded_registers (wants_in wants.now)) ≤ move_limit }
-    ensures moves { moves_in moves.new ≡ (moves_in moves.old ++ settled (wants_in wants.now) wants.now.scratch.0) ++ loaded_registers (wants_in wants.now) }
+    requires { HasRoom moves.old (settled (wants_in wants.now) wants.now.scratch.0 ++ loaded_registers (wants_in wants.now)) }
+    ensures moves { Adds (settled (wants_in wants.now) wants.now.scratch.0 ++ loaded_registers (wants_in wants.now)) moves.old moves.new }
     ensures rings { result ≡ length (opened (wants_in wants.now) wants.now.scratch.0) }
 {
     let rings = PendingMoves::of(wants).settle(wants, moves);

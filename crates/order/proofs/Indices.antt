@@ -60,11 +60,6 @@ pub first_found : (p : ℕ → Bool) (n j : ℕ) → j < n → p j ≡ true → 
 first_found p n j h yes' =
     elim (cases_option (first p n)) [ inl s ↦ s | inr none ↦ absurd (grind (arith, first_none p n none j h, yes')) ]
 
--- one index further, none found before
-pub first_more : (p : ℕ → Bool) (i : ℕ) → first p i ≡ None → p i ≡ false → first p (i + 1) ≡ None
-unfolding first
-first_more p i none no' = rw add-one (grind (arith, none, no'))
-
 pub some_more : (p : ℕ → Bool) (i : ℕ) → is_some (first p (i + 1)) ≡ (is_some (first p i) || p i)
 unfolding first
 some_more p i =

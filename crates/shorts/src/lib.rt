@@ -1,4 +1,5 @@
-// Sources and steps in short, for the tests. The crates that use them depend on `machine` and `conventions`, which the names in them are of.
+// Sources and steps in short, for the tests. A crate that uses them depends on `machine`, and for sources on `conventions`, which
+// the names in them are of.
 #![tactic(auto)]
 
 // A step as `copy 1 2`: what it writes comes first.

@@ -1,7 +1,7 @@
 -- Numbers as bytes, low byte first. Assumes nothing.
 use Rattle.std.proofs.Common.{◌≡◌, ℕ, zero, suc, ◌+◌, ◌-◌, ◌*◌, ◌/◌, ◌%◌, ◌^◌, ◌<◌, ◌≤◌, List, [], ◌∷◌, ◌++◌, length, get_or, take, drop, replicate, sym, refl, ap, ◌∙◌, subst, arith}
 use Rattle.std.proofs.lemmas.List.{drop-replicate, length-append, length-replicate}
-use Rattle.std.proofs.lemmas.Nat.{le_bytes_8, div_below, div-mul-add, mod-mul-add, div-add-mod', mul-add-lt, pow-add}
+use Rattle.std.proofs.lemmas.Nat.{shr-shr, le_bytes_8, div_below, div-mul-add, mod-mul-add, div-add-mod', mul-add-lt, pow-add}
 use Rattle.std.proofs.Math.Nat.{div-div-eq-div-mul}
 use Rattle.std.specs.Int.{bytes_low_first, from_le_bytes, to_le_bytes, w64}
 use Rattle.tape.specs.Commands.{little, value}
@@ -10,6 +10,14 @@ pub length-little : (w v : ℕ) → length (little w v) ≡ w
 unfolding little
 length-little zero v = refl
 length-little (suc w) v = ap suc (length-little w (v / 256))
+
+pub get_or-little : (w v i : ℕ) → i < w → get_or (little w v) i 0 ≡ (v / 2 ^ (8 * i)) % 256
+unfolding little
+get_or-little zero v i h = absurd (omega arith)
+get_or-little (suc w) v zero h = ap (λ n. n % 256) (grind arith)
+get_or-little (suc w) v (suc i) h =
+    get_or-little w (v / 256) i (omega arith)
+    ∙ ap (λ n. n % 256) (shr-shr v 8 (8 * i) ∙ ap (λ k. v / 2 ^ k) (omega arith))
 
 take-little : (w x v : ℕ) → w ≤ x → take w (little x v) ≡ little w v
 unfolding little

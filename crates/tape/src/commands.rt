@@ -6,7 +6,8 @@ use crate::opcodes::Opcode;
 use machine::places::{LocalSlot, OutgoingSlot, Register, RegisterSet};
 use machine::steps::Step;
 
-// A step taken apart, as it stands on a tape; `second` is 0 where the command has one operand.
+// A step taken apart, as it stands on a tape; `second` is 0 where the command has one operand: no `Option`, since an operand of no
+// bytes is the number 0.
 #[derive(Clone, Copy)]
 pub struct Command {
     pub opcode: Opcode,
@@ -38,7 +39,7 @@ impl From<Step> for Command {
 }
 
 impl Command {
-    // The step of a command.
+    // The step of a command. A method and no `From`, since it asks that the operands fit.
     pub(crate) fn step(self) -> Step
         requires { fits self ≡ true }
         ensures { result ≡ step_of self }
@@ -97,7 +98,7 @@ impl Command {
     {
         let first = self.opcode.first_width();
         let second = self.opcode.second_width();
-        space[0] = self.opcode.byte();
+        space[0] = self.opcode.into();
         space[1..1 + first].copy_from_slice(&self.first.to_le_bytes()[..first]);
         space[1 + first..].copy_from_slice(&self.second.to_le_bytes()[..second]);
     }

@@ -34,6 +34,7 @@ impl<T: Drop> From<AllocFailed<T>> for ReadError {
     }
 }
 
+// By hand, as each conversion and text here: a derive would state none of them.
 impl fmt::Display for ReadError {
     ghost output = { λ e. Some (read_error_text e) };
 

@@ -42,14 +42,16 @@ impl TryFrom<u8> for Opcode {
     }
 }
 
-impl Opcode {
-    // The command's first byte.
-    pub(crate) fn byte(self) -> u8
-        ensures { result ≡ first_byte self }
-    {
-        self as u8
-    }
+// The command's first byte.
+impl From<Opcode> for u8 {
+    ghost from_gives = { λ opcode byte. byte ≡ first_byte opcode };
 
+    fn from(opcode: Opcode) -> u8 {
+        opcode as u8
+    }
+}
+
+impl Opcode {
     // The bytes of the first operand.
     pub(crate) fn first_width(self) -> usize
         ensures { result ≡ first_width self }
@@ -61,7 +63,7 @@ impl Opcode {
         }
     }
 
-    // The bytes of the second operand, or 0 where there is none.
+    // The bytes of the second operand; of a command with one operand it has none, 0.
     pub(crate) fn second_width(self) -> usize
         ensures { result ≡ second_width self }
     {

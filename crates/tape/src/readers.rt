@@ -14,7 +14,7 @@ pub mod reads;
 #[derive(Drop)]
 pub struct Reader<'a> {
     tape: &'a [u8],
-    // the next command's place
+    // the next command's place, and no rest of the tape, since a fault and a part answer it
     place: usize,
     turn: Turn,
     ghost within: { place ≤ length tape.now },

@@ -20,7 +20,8 @@ const TURN: Answer = Err(Refusal::OutOfTurn);
 
 const ROOM: Answer = Err(Refusal::NoRoom);
 
-// Each step is answered so, and one that is refused leaves the turn and the room as they were.
+// Each step is answered so, and one that is refused leaves the turn and the room as they were. The tests of plans have the like over lists: each compares
+// another thing after a refusal, and one for both would be no plainer.
 fn answers<E: Emitter>(rt: &impl Abort, emitter: &mut E, script: &[(Step, Answer)]) {
     for (step, answer) in script {
         let before = (emitter.turn(), emitter.room());

@@ -104,7 +104,7 @@ fn more_than_a_bench_takes(rt: HostRuntime) -> Result<(), Fail> {
     Ok(())
 }
 
-// A tape in this buffer takes the list, and then has these bytes.
+// A tape in this buffer takes the list, and then has these bytes. The tests of single steps have the like, which also see the room.
 fn tape_takes(
     rt: &impl Abort,
     buffer: &mut [u8],

@@ -6,7 +6,7 @@ use std::alloc::{AllocError, Global};
 use std::process::Abort;
 use std::test::Fail;
 use tape::errors::ReadError;
-use tape::readers::Reader;
+use tape::readers::{Part, Reader};
 use tape::whole::{check_tape, read_tape};
 
 // how a tape begins that is then bare, with 16 bytes reserved, or called
@@ -16,16 +16,16 @@ const RESERVED: &[u8] = &[7, 16, 0];
 
 const CALLED: &[u8] = &[7, 16, 0, 8, 0, 0, 0, 0, 0, 0, 0, 0];
 
-// The tape is refused with this number, as it is published, at this byte: when it is checked, when it is read, and whenever
-// a reader is asked there.
-fn refused(rt: &impl Abort, heap: Global, tape: &[u8], number: u8, place: usize) {
+// The tape is refused with this number at this byte: when it is checked, when it is read, and whenever a reader is asked there.
+// The number is what is published, and a test keeps its value.
+fn refused(rt: &(impl Abort + AllocGlobal), tape: &[u8], number: u8, place: usize) {
     let Err(fault) = check_tape(tape) else {
         panic!(rt; "tape {tape:?} is accepted")
     };
     assert_eq!(rt; fault.refusal.number(), number, "tape {tape:?}");
     assert_eq!(rt; fault.place, place, "tape {tape:?}");
     assert_eq!(rt;
-        read_tape(heap, tape).err(),
+        read_tape(rt.alloc(), tape).err(),
         Some(ReadError::Refused(fault)),
         "tape {tape:?}"
     );
@@ -45,14 +45,13 @@ fn joined(heap: Global, begun: &[u8], rest: &[u8]) -> Result<Vec<u8>, AllocError
 
 // Each tape begins as said, and what comes next is refused with this number.
 fn each_refused(
-    rt: &impl Abort,
-    heap: Global,
+    rt: &(impl Abort + AllocGlobal),
     number: u8,
     tapes: &[(&[u8], &[u8])],
 ) -> Result<(), Fail> {
     for (begun, rest) in tapes {
-        let tape = joined(heap, begun, rest)?;
-        refused(rt, heap, &tape, number, begun.len());
+        let tape = joined(rt.alloc(), begun, rest)?;
+        refused(rt, &tape, number, begun.len());
     }
     Ok(())
 }
@@ -61,7 +60,6 @@ fn each_refused(
 fn unknown(rt: HostRuntime) -> Result<(), Fail> {
     each_refused(
         &rt,
-        rt.alloc(),
         41,
         &[
             (BARE, &[0x00]),
@@ -79,7 +77,6 @@ fn unknown(rt: HostRuntime) -> Result<(), Fail> {
 fn cut_short(rt: HostRuntime) -> Result<(), Fail> {
     each_refused(
         &rt,
-        rt.alloc(),
         42,
         &[
             (BARE, &[1, 0]),
@@ -106,7 +103,6 @@ fn cut_short(rt: HostRuntime) -> Result<(), Fail> {
 fn out_of_range_when_bare(rt: HostRuntime) -> Result<(), Fail> {
     each_refused(
         &rt,
-        rt.alloc(),
         43,
         &[
             (BARE, &[1, 32, 0]),
@@ -131,7 +127,6 @@ fn out_of_range_when_bare(rt: HostRuntime) -> Result<(), Fail> {
 fn out_of_range_later(rt: HostRuntime) -> Result<(), Fail> {
     each_refused(
         &rt,
-        rt.alloc(),
         43,
         &[
             (RESERVED, &[4, 32, 0, 0]),
@@ -157,7 +152,6 @@ fn out_of_range_later(rt: HostRuntime) -> Result<(), Fail> {
 fn out_of_turn(rt: HostRuntime) -> Result<(), Fail> {
     each_refused(
         &rt,
-        rt.alloc(),
         44,
         &[
             (BARE, &[9, 16, 0]),
@@ -210,59 +204,49 @@ fn longest(rt: HostRuntime) -> Result<(), Fail> {
 fn too_long(rt: HostRuntime) -> Result<(), Fail> {
     let mut tape = longest_tape(rt.alloc())?;
     tape.push(1)?;
-    refused(&rt, rt.alloc(), &tape, 45, 0);
+    refused(&rt, &tape, 45, 0);
     Ok(())
 }
 
 #[test]
 fn too_long_and_unknown(rt: HostRuntime) -> Result<(), Fail> {
     let tape = vec![in rt.alloc(); 0; 65_537]?;
-    refused(&rt, rt.alloc(), &tape, 45, 0);
+    refused(&rt, &tape, 45, 0);
     Ok(())
 }
 
-// The parts of the tape: step, place and bytes.
-fn parts() -> &'static [(Step, usize, &'static [u8])] {
-    &[
-        (step!(copy 1 2), 0, &[0x01, 0x01, 0x02]),
-        (
+fn part(step: Step, place: usize, bytes: &'static [u8]) -> Part<'static> {
+    Part { place, bytes, step }
+}
+
+// The parts of the tape.
+fn parts() -> [Part<'static>; 9] {
+    [
+        part(step!(copy 1 2), 0, &[0x01, 0x01, 0x02]),
+        part(
             step!(set 3 0x1122_3344_5566_7788),
             3,
             &[0x02, 0x03, 0x88, 0x77, 0x66, 0x55, 0x44, 0x33, 0x22, 0x11],
         ),
-        (step!(fetch 4 0x0102), 13, &[0x03, 0x04, 0x02, 0x01]),
-        (step!(reserve 256), 17, &[0x07, 0x00, 0x01]),
-        (step!(store 31 5), 20, &[0x05, 0x1F, 0x00, 0x05]),
-        (step!(back 6 7), 24, &[0x04, 0x06, 0x07, 0x00]),
-        (
+        part(step!(fetch 4 0x0102), 13, &[0x03, 0x04, 0x02, 0x01]),
+        part(step!(reserve 256), 17, &[0x07, 0x00, 0x01]),
+        part(step!(store 31 5), 20, &[0x05, 0x1F, 0x00, 0x05]),
+        part(step!(back 6 7), 24, &[0x04, 0x06, 0x07, 0x00]),
+        part(
             step!(call 0x0A0B_0C0D 0xF0E0_D0C0),
             28,
             &[0x08, 0x0D, 0x0C, 0x0B, 0x0A, 0xC0, 0xD0, 0xE0, 0xF0],
         ),
-        (step!(pop 256), 37, &[0x09, 0x00, 0x01]),
-        (step!(keep 1023 8), 40, &[0x06, 0xFF, 0x03, 0x08]),
+        part(step!(pop 256), 37, &[0x09, 0x00, 0x01]),
+        part(step!(keep 1023 8), 40, &[0x06, 0xFF, 0x03, 0x08]),
     ]
-}
-
-fn hands_out(
-    rt: &impl Abort,
-    reader: &mut Reader,
-    step: Step,
-    place: usize,
-    bytes: &[u8],
-) -> Result<(), Fail> {
-    let Some(part) = reader.next_command()? else {
-        return Err(Fail::new("the tape has ended"));
-    };
-    assert_eq!(rt; (part.step, part.place, part.bytes), (step, place, bytes));
-    Ok(())
 }
 
 #[test]
 fn each_part(rt: HostRuntime) -> Result<(), Fail> {
     let mut reader = Reader::open(TAPE);
-    for (step, place, bytes) in parts() {
-        hands_out(&rt, &mut reader, *step, *place, bytes)?;
+    for part in parts() {
+        assert_eq!(rt; reader.next_command()?, Some(part));
     }
     assert!(rt; reader.next_command()?.is_none());
     Ok(())

@@ -23,7 +23,7 @@ fn writes(
     filled(rt, buffer, bytes);
 }
 
-// The same for writing a tape again.
+// The same for writing a tape again. Tried as one function over a closure: it needs a contract, and each row takes seven lines.
 fn rewrites(
     rt: &impl Abort,
     tape: &[u8],

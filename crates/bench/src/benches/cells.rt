@@ -9,36 +9,40 @@ use crate::kinds::WordKind;
 use crate::limits::*;
 use machine::limits::REGISTERS;
 use machine::places::{Register, RegisterSet};
-use std::ops::Range;
+
+// The cells from one place on up to another.
+#[derive(Clone, Copy)]
+pub(super) struct Area {
+    pub(super) start: usize,
+    pub(super) end: usize,
+    ghost ordered: { start ≤ end },
+    ghost inside: { end ≤ cell_count },
+}
 
 impl<'a, W: WordKind> Bench<'a, W> {
     // Makes the cells of the area unknown, and keeps those before them.
-    pub(super) fn wipe(&mut self, area: Range<usize>)
-        requires ordered { area.start ≤ area.end }
-        requires inside { area.end ≤ cell_count }
+    pub(super) fn wipe(&mut self, area: Area)
         ensures words { Rewritten W.stands (wiped area.start (area.end - area.start)) self.old self.new }
         ensures before { take area.start self.new.cells.now ≡ take area.start self.old.cells.now }
     {
         let unknown = W::unknown();
         // `fill` asks that a clone cannot fail, which a word kind does not say
-        self.cells[area].fill_with(|| unknown);
+        self.cells[area.start..area.end].fill_with(|| unknown);
     }
 
     // Copies the cells of the area over those from `to` on.
-    pub(super) fn copy_area(&mut self, area: Range<usize>, to: usize)
-        requires ordered { area.start ≤ area.end }
-        requires inside { area.end ≤ cell_count }
-        requires target { to + (area.end - area.start) ≤ cell_count }
+    pub(super) fn copy_area(&mut self, area: Area, to: usize)
+        requires { to + (area.end - area.start) ≤ cell_count }
         ensures { Rewritten W.stands (copied area.start to (area.end - area.start)) self.old self.new }
     {
-        self.cells.copy_within(area, to);
+        self.cells.copy_within(area.start..area.end, to);
     }
 
     // Makes the registers of the set unknown.
     pub(super) fn lose_registers(&mut self, lost: RegisterSet)
         ensures { Rewritten W.stands (lose lost.0) self.old self.new }
     {
-        // by the register's number, which the set is asked for: a cell's index would have to be cast down to it
+        // tried over the first cells by `iter_mut` and `enumerate`: goals without a name stay open
         for r in 0..REGISTERS {
             if lost.contains(Register(r)) {
                 self.cells[r as usize] = W::unknown();
@@ -50,9 +54,19 @@ impl<'a, W: WordKind> Bench<'a, W> {
     pub(super) fn record_call(&mut self, lost: RegisterSet)
         ensures { Rewritten W.stands (call_words lost.0) self.old self.new }
     {
-        self.copy_area(0..LOCALS, SEEN_REGISTERS);
-        self.copy_area(OUTGOING..SEEN_REGISTERS, SEEN_OUTGOING);
-        self.wipe(OUTGOING..SEEN_REGISTERS);
+        self.copy_area(
+            Area {
+                start: 0,
+                end: LOCALS,
+            },
+            SEEN_REGISTERS,
+        );
+        let outgoing = Area {
+            start: OUTGOING,
+            end: SEEN_REGISTERS,
+        };
+        self.copy_area(outgoing, SEEN_OUTGOING);
+        self.wipe(outgoing);
         self.lose_registers(lost);
     }
 }

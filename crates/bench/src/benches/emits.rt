@@ -6,6 +6,7 @@ ghost use Rattle.bench.specs.Benches.{Acted, bench_meaning};
 ghost use Rattle.bench.specs.Cells.{bench_steps};
 
 use crate::benches::Bench;
+use crate::benches::cells::Area;
 use crate::kinds::WordKind;
 use crate::limits::*;
 use machine::emitters::Emitter;
@@ -31,7 +32,10 @@ impl<'a, W: WordKind> Bench<'a, W> {
                 self.cells[from.0 as usize],
             Step::Keep { to, from } => self.cells[LOCALS + to.0 as usize] =
                 self.cells[from.0 as usize],
-            Step::Reserve { bytes: _ } => self.wipe(OUTGOING..SEEN_REGISTERS),
+            Step::Reserve { bytes: _ } => self.wipe(Area {
+                start: OUTGOING,
+                end: SEEN_REGISTERS,
+            }),
             Step::Call { routine, lost } => {
                 self.record_call(lost);
                 self.routine = routine;

@@ -5,6 +5,7 @@ ghost use Rattle.bench.specs.Benches.{Opened};
 ghost use Rattle.bench.specs.Origins.{OwnOrigins, own_origin};
 
 use crate::benches::Bench;
+use crate::benches::cells::Area;
 use crate::kinds::WordKind;
 use crate::limits::*;
 use crate::origins::Origin;
@@ -38,7 +39,10 @@ impl<'a, W: WordKind> Bench<'a, W> {
             routine: 0,
             taken: 0,
         };
-        bench.wipe(OUTGOING..CELLS);
+        bench.wipe(Area {
+            start: OUTGOING,
+            end: CELLS,
+        });
         bench
     }
 }

@@ -37,11 +37,12 @@ fn all_usable(usable: RegisterSet, sources: &[Source]) -> bool
     sources.iter().all(|source| source_usable(usable, *source))
 }
 
-// Adds the hidden arguments, or tells that the list was full.
+// Adds the hidden arguments, or tells that the list was full. Each `room` here states its own sum, which a name would hide.
 fn fill_hidden<C: Convention>(convention: &C, arguments: &mut Arguments) -> Result<(), Full>
     ensures ok { OnOk result (arguments_in arguments.new ≡ arguments_in arguments.old ++ hidden_arguments (C.answers convention.now) (C.answers convention.now).hidden) }
     ensures room { IsOk result ↔ (length (arguments_in arguments.old) + (C.answers convention.now).hidden ≤ argument_limit) }
 {
+    // a convention is asked for them by number
     for i in 0..convention.hidden() {
         arguments.entries.push(Argument {
             place: convention.hidden_place(i),

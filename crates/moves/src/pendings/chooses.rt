@@ -29,7 +29,7 @@ impl PendingMoves {
         ensures { Marked (table_in self.now) registers result }
     {
         let mut read = [false; REGISTERS as usize];
-        // a loop over the registers' numbers: the element that is marked is another's
+        // tried over `filter_map`: the goals then speak of the iterator's inner steps, and the proof did not close
         for e in 0..REGISTERS {
             if let Some(register) = self.read_by(Register(e)) {
                 read[register.0 as usize] = true;
@@ -78,7 +78,7 @@ impl PendingMoves {
     {
         match self.lowest_held(wants) {
             Some(register) => {
-                let slot = wants.lowest_slot(Source::Register(register))?;
+                let slot = wants.lowest_slot(Source::Register(register)).unwrap();
                 Some(Choice::Reload(register, slot))
             }
             None => self.lowest_pending().map(Choice::Spill),
@@ -89,9 +89,8 @@ impl PendingMoves {
     pub(crate) fn choose(&self, wants: &Wants) -> Option<Choice>
         ensures { choice_in result ≡ choose (wants_in wants.now) (table_in self.now) }
     {
-        match self.lowest_free() {
-            Some(register) => Some(Choice::Take(register)),
-            None => self.opening(wants),
-        }
+        self.lowest_free()
+            .map(Choice::Take)
+            .or_else(|| self.opening(wants))
     }
 }

@@ -1,8 +1,7 @@
 // Carrying out choices until nothing is pending.
-ghost use Rattle.std.specs.Prelude.{◌≡◌, ◌+◌, ◌≤◌, ◌++◌, length, Some};
+ghost use Rattle.std.specs.Prelude.{◌≡◌, length, Some};
 ghost use Rattle.order.specs.Order.{choices};
 ghost use Rattle.order.specs.Tables.{fill, given, next_table, settle, spilled};
-ghost use Rattle.moves.specs.Limits.{move_limit};
 ghost use Rattle.moves.specs.Lists.{Adds, HasRoom, moves_in};
 ghost use Rattle.moves.specs.Tables.{Settled, choice_in, table_in};
 ghost use Rattle.moves.specs.Wants.{wants_in};
@@ -26,7 +25,7 @@ fn fill(to: Register, place: Place) -> Step
     }
 }
 
-// How many rings a choice opens through the scratch.
+// How many rings a choice opens through the scratch. A choice is a value and no closure, since the definition of the order has it too, and the two are compared.
 fn rings_spilled(choice: Choice) -> u8
     ensures { result ≡ length (spilled (choice_in (Some choice))) }
 {
@@ -37,7 +36,7 @@ fn rings_spilled(choice: Choice) -> u8
 }
 
 impl PendingMoves {
-    // Adds the move of a choice, and turns the readers that it concerns.
+    // Adds the move of a choice, and turns the readers that it concerns; a match, for the same reason.
     fn carry_out(&mut self, choice: Choice, scratch: Register, moves: &mut MoveList)
         requires { HasRoom moves.old (given scratch.0 (choice_in (Some choice)) (table_in self.old)) }
         ensures table { table_in self.new ≡ next_table scratch.0 (choice_in (Some choice)) (table_in self.old) }

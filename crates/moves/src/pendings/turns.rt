@@ -51,7 +51,7 @@ impl PendingMoves {
         self.source(register) != Place::Register(register)
     }
 
-    // Turns the pending moves that read `from` to read `to`: an element's source is changed through `&mut self`, as the project asks for here.
+    // Turns the pending moves that read `from` to read `to`: a register's element is changed in place through `&mut self`, the form that the project asks for here.
     pub(crate) fn turn(&mut self, from: Place, to: Place)
         ensures { table_in self.new ≡ turned from to (table_in self.old) }
     {

@@ -1,7 +1,7 @@
 // Looking for a source among the wants.
 ghost use Rattle.std.specs.Prelude.{◌≡◌};
 ghost use Rattle.least.specs.Counts.{is_value};
-ghost use Rattle.order.specs.Order.{is_index, spreads};
+ghost use Rattle.order.specs.Order.{spreads};
 ghost use Rattle.order.specs.Wants.{is_source, lowest_register, lowest_slot};
 ghost use Rattle.moves.specs.Wants.{register_number, slot_number, wants_in};
 
@@ -20,7 +20,8 @@ pub(crate) fn is_value(source: Source) -> bool
     }
 }
 
-// A register and an outgoing slot are never taken for one another: what is asked of either is a function of its own.
+// A register and an outgoing slot are never taken for one another: what is asked of either is a function of its own. A table generic in its keys would
+// be no plainer: it would add two functions and keep these four.
 impl Wants {
     // What a register is to hold.
     pub(crate) fn register(&self, register: Register) -> Option<Source>

@@ -1,4 +1,4 @@
-use Rattle.std.proofs.Common.{◌++◌, length, ap, ◌∙◌, arith, length-append}
+use Rattle.std.proofs.Common.{◌++◌, length, ap, arith, length-append}
 use Rattle.order.specs.Order.{loaded_registers, settled, spread_values, stored_registers}
 use Rattle.moves.specs.Lists.{moves_in}
 use Rattle.moves.specs.Wants.{wants_in}
@@ -20,23 +20,22 @@ spread_values-values-requires c =
 
 pub fill_registers-rings-requires : goal.fill_registers-rings-requires
 fill_registers-rings-requires c =
-    let all = order_length (wants_in c.args.wants.now) c.args.wants.now.scratch.0 in
-    let one = added_length (stored_registers (wants_in c.args.wants.now)) (moves_in c.clear.new.self) _ c.store_registers.ensures in
-    let two = added_length (spread_values (wants_in c.args.wants.now) c.args.wants.now.scratch.0) (moves_in c.store_registers.new.moves) _ c.spread_values-values.ensures.moves in
+    let w = wants_in c.args.wants.now in
+    let all = order_length w c.args.wants.now.scratch.0 in
     let none = ap length c.clear.ensures in
-    omega (arith, c.requires, all, none, one, two)
+    let one = added_length (stored_registers w) (moves_in c.clear.new.self) _ c.store_registers.ensures in
+    let two = added_length (spread_values w c.args.wants.now.scratch.0) (moves_in c.store_registers.new.moves) _ c.spread_values-values.ensures.moves in
+    omega (arith, c.requires, all, none, one, two, length-append (settled w c.args.wants.now.scratch.0) (loaded_registers w))
 
 pub store_values-requires : goal.store_values-requires
 store_values-requires c =
     let w = wants_in c.args.wants.now in
     let all = order_length w c.args.wants.now.scratch.0 in
-    let one = added_length (stored_registers (wants_in c.args.wants.now)) (moves_in c.clear.new.self) _ c.store_registers.ensures in
-    let two = added_length (spread_values (wants_in c.args.wants.now) c.args.wants.now.scratch.0) (moves_in c.store_registers.new.moves) _ c.spread_values-values.ensures.moves in
-    let settled_too = moves_in c.spread_values-values.new.moves ++ settled w c.args.wants.now.scratch.0 in
-    let three = length-append (moves_in c.spread_values-values.new.moves) (settled w c.args.wants.now.scratch.0) in
-    let four = ap length c.fill_registers-rings.ensures.moves ∙ length-append settled_too (loaded_registers w) in
     let none = ap length c.clear.ensures in
-    omega (arith, c.requires, all, none, one, two, three, four)
+    let one = added_length (stored_registers w) (moves_in c.clear.new.self) _ c.store_registers.ensures in
+    let two = added_length (spread_values w c.args.wants.now.scratch.0) (moves_in c.store_registers.new.moves) _ c.spread_values-values.ensures.moves in
+    let three = added_length (settled w c.args.wants.now.scratch.0 ++ loaded_registers w) (moves_in c.spread_values-values.new.moves) _ c.fill_registers-rings.ensures.moves in
+    omega (arith, c.requires, all, none, one, two, three, length-append (settled w c.args.wants.now.scratch.0) (loaded_registers w))
 
 pub returns-clause-moves : goal.returns-clause-moves
 returns-clause-moves c =

@@ -6,4 +6,4 @@ use Rattle.bench.proofs.benches.Bench.copy_area.Goals as goal
 pub returns : goal.returns
 returns g c =
     let whole = c.args.self.now.whole in
-    rewritten_cells (λ s. rw c.copy_within.ensures.after (words_copied (λ d. g.W.WordKind.stands d s) c.args.self.now.cells.now _ _ _ c.requires.ordered (omega (arith, whole)) (omega (arith, whole))))
+    rewritten_cells (λ s. rw c.copy_within.ensures.after (words_copied (λ d. g.W.WordKind.stands d s) c.args.self.now.cells.now _ _ _ c.args.area.ordered (omega (arith, whole, c.args.area.inside)) (omega (arith, whole))))
