@@ -1,14 +1,22 @@
-// Tests of how steps, words and origins print.
+// Tests that steps, words, origins, refusals and errors print, and how: a contract states the text, but not that it is written.
 use bench::origins::Origin;
+use bounded_lists::lists::Full;
 use machine::places::{LocalSlot, Register};
-use machine::steps::Step;
+use machine::refusals::Refusal;
 use machine::words::Word;
 use shorts::step;
+use std::fmt::Display;
 use std::process::Abort;
 use std::test::Fail;
+use tape::errors::{ReadError, RewriteError};
+use tape::readers::Fault;
 
-fn prints(rt: &(impl Abort + AllocGlobal), step: Step, text: &str) -> Result<(), Fail> {
-    assert_eq!(rt; format!(in rt.alloc(); "{step}")?.as_str(), text);
+fn prints<T: Display + Drop>(
+    rt: &(impl Abort + AllocGlobal),
+    value: T,
+    text: &str,
+) -> Result<(), Fail> {
+    assert_eq!(rt; format!(in rt.alloc(); "{value}")?.as_str(), text);
     Ok(())
 }
 
@@ -47,4 +55,25 @@ fn origins(rt: HostRuntime) -> Result<(), Fail> {
         "r6 l3 k5 ?"
     );
     Ok(())
+}
+
+#[test]
+fn refusals(rt: HostRuntime) -> Result<(), Fail> {
+    prints(&rt, Refusal::ListFull, "refused: 11")?;
+    prints(&rt, Refusal::TooLong, "refused: 45")
+}
+
+// A fault leaves its place out.
+#[test]
+fn errors(rt: HostRuntime) -> Result<(), Fail> {
+    let fault = Fault {
+        refusal: Refusal::CutShort,
+        place: 3,
+    };
+    prints(&rt, fault, "refused: 42")?;
+    prints(&rt, ReadError::Refused(fault), "refused: 42")?;
+    prints(&rt, ReadError::Memory, "no memory")?;
+    prints(&rt, RewriteError::Tape(fault), "refused: 42")?;
+    prints(&rt, RewriteError::Buffer(Refusal::NoRoom), "refused: 33")?;
+    prints(&rt, Full, "the list is full")
 }
