@@ -1,5 +1,5 @@
 -- The word that an origin stands for. Assumes nothing.
-use Rattle.std.specs.Prelude.{◌≡◌, ℕ, ◌+◌, ◌-◌, ◌<◌, ◌≤◌, ◌++◌, codes, cond, List, Ok, Err, Result, nat_lt, slice_index_or}
+use Rattle.std.specs.Prelude.{◌≡◌, ℕ, ◌+◌, ◌<◌, ◌≤◌, ◌++◌, codes, List, Ok, Err, Result, slice_index_or}
 use Rattle.std.specs.Fmt.{decimal}
 use Rattle.machine.specs.Limits.{registers, local_slots}
 use Rattle.machine.specs.Words.{Start}
@@ -23,10 +23,6 @@ origin_text Unknown = codes "?"
 origin_text (Register r) = codes "r" ++ decimal r.0
 origin_text (Local n) = codes "l" ++ decimal n.0
 origin_text (Number k) = codes "k" ++ decimal k
-
--- what the cell of a place holds that is its own origin
-abbrev pub own_origin : ℕ → Origin
-own_origin i = cond (nat_lt i first_local) (Register (record { 0 = i })) (cond (nat_lt i first_outgoing) (Local (record { 0 = i - first_local })) Unknown)
 
 -- every register and local slot is its own origin, and every other cell is unknown
 pub record Own (cells : List Origin) : Type 0 where

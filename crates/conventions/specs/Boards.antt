@@ -27,7 +27,7 @@ registers_first rs scratch usable lost = record {
 
 -- what a board answers
 abbrev pub board_answers : Board → Answers
-board_answers b = registers_first (numbers b.registers.now) b.scratch.0 b.usable.0 b.lost.0
+board_answers b = registers_first (numbers b.count b.registers) b.scratch.0 b.usable.0 b.lost.0
 
 -- System V AMD64, registers numbered as x86-64 encodes them
 abbrev pub sysv : Answers

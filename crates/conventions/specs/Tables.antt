@@ -1,5 +1,5 @@
 -- Tables of argument registers: what a table tells, and the tests that make it lawful. Assumes nothing.
-use Rattle.std.specs.Prelude.{ℕ, Bool, true, not, ◌&&◌, List, [], ◌∷◌, map, ◌==◌}
+use Rattle.std.specs.Prelude.{ℕ, Bool, true, not, ◌&&◌, List, [], ◌∷◌, map, take, ◌==◌}
 use Rattle.std.specs.List.{list_all, list_any}
 use Rattle.machine.specs.Places.{holds}
 use Rattle.machine.specs.declared.places.Register.{Register}
@@ -8,9 +8,9 @@ use Rattle.machine.specs.declared.places.Register.{Register}
 abbrev pub argument_registers : ℕ
 argument_registers = 8
 
--- the numbers of the registers
-abbrev pub numbers : List Register → List ℕ
-numbers rs = map (λ r. r.0) rs
+-- the numbers of the first n registers
+abbrev pub numbers : ℕ → List Register → List ℕ
+numbers n rs = map (λ r. r.0) (take n rs)
 
 abbrev pub has : ℕ → List ℕ → Bool
 has r rs = list_any (λ x. r == x) rs

@@ -1,7 +1,7 @@
 -- Any table of argument registers makes a lawful convention. Assumes nothing.
-use Rattle.std.specs.Prelude.{◌≡◌, ℕ, zero, suc, ◌-◌, ◌<◌, true, false, not, List, [], ◌∷◌, length, ◌==◌, ◌≢◌, slice_index, slice_index_or, refl}
+use Rattle.std.specs.Prelude.{◌≡◌, ℕ, zero, suc, ◌-◌, ◌<◌, ◌≤◌, true, false, not, List, [], ◌∷◌, length, take, ◌==◌, ◌≢◌, slice_index, slice_index_or, refl}
 use Rattle.std.proofs.Common.{sym, ap, ◌∙◌, inl, inr, arith, eq-eqb}
-use Rattle.std.proofs.lemmas.List.{get_or-map, length-map}
+use Rattle.std.proofs.lemmas.List.{get_or-map, get_or-take, length-map, length-take-le}
 use Rattle.std.proofs.lemmas.List.Folds.{list_any_at}
 use Rattle.std.proofs.lemmas.List.Sums.{AllPass-from_list_all}
 use Rattle.std.proofs.lemmas.Bool.{and_parts, cases_lt, not-true}
@@ -13,11 +13,13 @@ use Rattle.conventions.specs.Boards.{in_order, registers_first}
 use Rattle.conventions.specs.Conventions.{Lawful, place_lawful, place_of}
 use Rattle.conventions.specs.Tables.{all_held, distinct, has, numbers}
 
-pub length-numbers : (rs : List Register) → length (numbers rs) ≡ length rs
-length-numbers rs = length-map rs (λ r. r.0)
+pub length-numbers : (n : ℕ) (rs : List Register) → n ≤ length rs → length (numbers n rs) ≡ n
+length-numbers n rs whole = length-map (take n rs) (λ r. r.0) ∙ length-take-le n rs whole
 
-pub get_or-numbers : (rs : List Register) (i : ℕ) → i < length rs → slice_index (numbers rs) i ≡ (slice_index_or rs i (record { 0 = 0 })).0
-get_or-numbers rs i below = get_or-map (λ (r : Register). r.0) rs i (record { 0 = 0 }) 0 below
+pub get_or-numbers : (n : ℕ) (rs : List Register) (i : ℕ) → n ≤ length rs → i < n → slice_index (numbers n rs) i ≡ (slice_index_or rs i (record { 0 = 0 })).0
+get_or-numbers n rs i whole below =
+    let count = length-take-le n rs whole in
+    get_or-map (λ (r : Register). r.0) (take n rs) i (record { 0 = 0 }) 0 (omega arith) ∙ ap (λ r. r.0) (get_or-take n rs i (record { 0 = 0 }) below)
 
 absent_at : (r : ℕ) (rs : List ℕ) (j : ℕ) → has r rs ≡ false → j < length rs → r ≢ slice_index rs j
 absent_at r rs j none below same =

@@ -9,16 +9,22 @@ use machine::places::{Register, RegisterSet};
 mod answers;
 mod makes;
 
+// a board has at most this many argument registers
+const ARGUMENT_REGISTERS: usize = 8;
+
+// Its registers are an array and no slice: a board that held a borrow could stand in no enum of its user's without a proof by hand.
 #[derive(Clone, Copy)]
 pub struct Board {
-    // those that take arguments, in their order
-    registers: &'static [Register],
+    registers: [Register; ARGUMENT_REGISTERS],
+    // how many of the registers take arguments
+    count: u8,
     scratch: Register,
     usable: RegisterSet,
     lost: RegisterSet,
-    ghost few: { length registers.now ≤ argument_registers },
-    ghost different: { distinct (numbers registers.now) ≡ true },
-    ghost held: { all_held usable.0 (numbers registers.now) ≡ true },
+    ghost few: { count ≤ argument_registers },
+    ghost whole: { length registers ≡ argument_registers },
+    ghost different: { distinct (numbers count registers) ≡ true },
+    ghost held: { all_held usable.0 (numbers count registers) ≡ true },
     ghost ranged: { scratch.0 < register_limit },
     ghost reserved: { holds usable.0 scratch.0 ≡ false },
 }

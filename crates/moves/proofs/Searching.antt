@@ -1,5 +1,6 @@
--- The lowest number that passes a test, found by a search through a range. Assumes nothing.
-use Rattle.std.proofs.Common.{◌≡◌, ℕ, ◌<◌, ◌≤◌, Bool, true, false, is_some, Some, None, Option, sym, refl, ap, ◌∙◌, inl, inr, arith}
+-- The lowest number that passes a test, found by a search through a range or a list. Assumes nothing.
+use Rattle.std.proofs.Common.{◌≡◌, ℕ, ◌<◌, ◌≤◌, Bool, true, false, List, length, get_or, is_some, Some, None, Option, sym, refl, ap, ◌∙◌, inl, inr, arith}
+use Rattle.std.specs.List.{AllWithin, HoldsAt}
 use Rattle.std.specs.Option.{MatchOption}
 use Rattle.std.proofs.lemmas.Bool.{and_parts}
 use Rattle.machine.specs.Limits.{registers}
@@ -34,3 +35,8 @@ none_passes p n none =
 pub first_is : (p : ℕ → Bool) (n : ℕ) (r : Option ℕ) → MatchOption r ((k : ℕ) → 0 ≤ k → k < n → p k ≡ false) (λ i. (0 ≤ i) × (i < n) × (p i ≡ true) × ((k : ℕ) → 0 ≤ k → k < i → p k ≡ false)) → r ≡ first p n
 first_is p n None none = sym (none_passes p n (λ k h. none k (omega arith) h))
 first_is p n (Some i) found = sym (first_hit p n i found.1 (none_passes p i (λ k h. found.3 k (omega arith) h)) found.2)
+
+-- what a search through a list tells of its result
+pub first_in : {A : Type 0} (p : A → Bool) (xs : List A) (d : A) (n : ℕ) (r : Option ℕ) → length xs ≡ n → MatchOption r (AllWithin (λ x. p x ≡ false) xs 0 (length xs)) (λ i. (i < length xs) × HoldsAt (λ x. p x ≡ true) xs i × AllWithin (λ x. p x ≡ false) xs 0 i) → r ≡ first (λ i. p (get_or xs i d)) n
+first_in p xs d n None whole none = first_is (λ i. p (get_or xs i d)) n None (λ k low high. none k d low (omega arith))
+first_in p xs d n (Some i) whole found = first_is (λ i. p (get_or xs i d)) n (Some i) (omega arith, omega (arith, found.0), found.1 d, λ k low high. found.2 k d low high)

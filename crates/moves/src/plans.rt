@@ -1,7 +1,11 @@
 // The plan of a call: its moves, the bytes that it reserves, and its counts.
-ghost use Rattle.std.specs.Prelude.{◌≡◌, ◌+◌, ◌≤◌, ◌++◌, length};
+ghost use Rattle.std.specs.Prelude.{◌≡◌, ◌+◌, ◌≤◌, ◌++◌, true, length};
+ghost use Rattle.std.specs.List.{AllByRecursion};
+ghost use Rattle.machine.specs.Limits.{outgoing_slots};
+ghost use Rattle.conventions.specs.Arguments.{place_in_range};
 ghost use Rattle.conventions.specs.Lists.{listed};
 ghost use Rattle.order.specs.Order.{loaded_registers, opened, order_of, settled, values_spread};
+ghost use Rattle.order.specs.Wants.{wants};
 ghost use Rattle.moves.specs.Limits.{move_limit};
 ghost use Rattle.moves.specs.Lists.{Adds, HasRoom, moves_in};
 ghost use Rattle.moves.specs.Wants.{wants_in};
@@ -10,11 +14,13 @@ ghost use Rattle.moves.specs.Plans.{Planned};
 use crate::lists::MoveList;
 use crate::pendings::PendingMoves;
 use crate::wants::Wants;
+use conventions::arguments::Argument;
 use conventions::calls::bytes_for;
 use conventions::calls::fills::arguments;
 use conventions::conventions::Convention;
 use conventions::lists::ArgumentList;
 use least::counts::count_needed;
+use machine::places::Register;
 use machine::refusals::Refusal;
 
 #[derive(Clone, Copy, PartialEq, Eq, Debug)]
@@ -62,6 +68,17 @@ fn write_moves(wants: &Wants, moves: &mut MoveList) -> ScratchLoads
     ScratchLoads { rings, values }
 }
 
+// Writes the moves of a call's arguments, in their order. Apart from `plan_call`, so that a refused call does not pay for the table of wants.
+fn write_call(arguments: &[Argument], scratch: Register, moves: &mut MoveList) -> ScratchLoads
+    requires places { AllByRecursion (λ a. place_in_range outgoing_slots a.place ≡ true) arguments.now }
+    requires room { length (order_of (wants arguments.now) scratch.0) ≤ move_limit }
+    ensures moves { moves_in moves.new ≡ order_of (wants arguments.now) scratch.0 }
+    ensures rings { result.rings ≡ length (opened (wants arguments.now) scratch.0) }
+    ensures values { result.values ≡ length (values_spread (wants arguments.now)) }
+{
+    write_moves(&Wants::of(arguments, scratch), moves)
+}
+
 // Plans a call with the listed sources given: writes its moves, or refuses and leaves the moves as they were.
 pub fn plan_call<C: Convention>(
     convention: &C,
@@ -71,8 +88,11 @@ pub fn plan_call<C: Convention>(
     ensures { Planned (C.answers convention.now) (listed list.now) result moves.old moves.new }
 {
     let arguments = arguments(convention, list)?;
-    let wants = Wants::of(arguments.entries(), convention.scratch());
-    let ScratchLoads { rings, values } = write_moves(&wants, moves);
+    let ScratchLoads { rings, values } = write_call(
+        arguments.entries(),
+        convention.scratch(),
+        moves,
+    );
     Ok(Plan {
         bytes: bytes_for(convention.slots(list.len()) as u8),
         needed: count_needed(arguments.entries()) as u8,

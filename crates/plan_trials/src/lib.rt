@@ -6,6 +6,8 @@ mod benches;
 #[cfg(test)]
 mod boards;
 #[cfg(test)]
+mod chosen;
+#[cfg(test)]
 mod hiding;
 #[cfg(test)]
 mod least_counts;

@@ -1,9 +1,11 @@
 -- Numbers as bytes, low byte first. Assumes nothing.
-use Rattle.std.proofs.Common.{◌≡◌, ℕ, zero, suc, ◌+◌, ◌-◌, ◌*◌, ◌/◌, ◌%◌, ◌^◌, ◌<◌, ◌≤◌, List, [], ◌∷◌, ◌++◌, length, get_or, take, drop, replicate, sym, refl, ap, ◌∙◌, subst, arith}
-use Rattle.std.proofs.lemmas.List.{drop-replicate, length-append, length-replicate}
-use Rattle.std.proofs.lemmas.Nat.{shr-shr, le_bytes_8, div_below, div-mul-add, mod-mul-add, div-add-mod', mul-add-lt, pow-add}
+use Rattle.std.proofs.Common.{◌≡◌, ℕ, zero, suc, ◌+◌, ◌*◌, ◌/◌, ◌%◌, ◌^◌, ◌<◌, ◌≤◌, List, [], ◌∷◌, ◌++◌, length, get_or, take, sym, refl, ap, append_assoc, ◌∙◌, subst, arith, pow_mono}
+use Rattle.std.proofs.Math.Seq.{get_or-append_seam}
+use Rattle.std.proofs.lemmas.List.{append-nil, length-append}
+use Rattle.std.proofs.lemmas.Nat.{shr-shr, div_below, div-mul-add, mod-mul-add, div-add-mod', mul-add-lt, pow-add}
 use Rattle.std.proofs.Math.Nat.{div-div-eq-div-mul}
-use Rattle.std.specs.Int.{bytes_low_first, from_le_bytes, to_le_bytes, w64}
+use Rattle.std.specs.Int.{bytes_low_first, to_le_bytes, w64}
+use Rattle.std.specs.List.{push}
 use Rattle.tape.specs.Commands.{little, value}
 
 pub length-little : (w v : ℕ) → length (little w v) ≡ w
@@ -84,39 +86,35 @@ writes_more b v bs byte w = record {
   fit = number_fits b (length bs) v byte w.fit;
 }
 
--- bytes write their value
-writes_value : (bs : List ℕ) → ((i : ℕ) → get_or bs i 0 < 256) → Writes (value bs) bs
-unfolding value
-writes_value [] bytes = writes_none
-writes_value (b ∷ bs) bytes =
-    subst (λ v. Writes v (b ∷ bs)) (omega arith) (writes_more b (value bs) bs (bytes 0) (writes_value bs (λ i. bytes (suc i))))
+-- a loop from the last byte down: those after the bytes that are left write the number so far
+pub record WritesFrom (bs left : List ℕ) (v : ℕ) : Type 0 where
+  pub done : List ℕ
+  pub parts : bs ≡ left ++ done
+  pub writes : Writes v done
 
--- zeros after bytes leave their value
-value_zeros : (n : ℕ) → value (replicate n 0) ≡ 0
-unfolding value
-value_zeros zero = refl
-value_zeros (suc n) = omega (arith, value_zeros n)
+pub writes_from_end : (bs : List ℕ) → WritesFrom bs bs 0
+writes_from_end bs = record { done = []; parts = sym (append-nil bs); writes = writes_none }
 
-value_append_zeros : (bs : List ℕ) (n : ℕ) → value (bs ++ replicate n 0) ≡ value bs
-unfolding value
-value_append_zeros [] n = value_zeros n
-value_append_zeros (b ∷ bs) n = ap (λ v. b + 256 * v) (value_append_zeros bs n)
+pub writes_whole : (bs left : List ℕ) (v : ℕ) → length left ≡ 0 → WritesFrom bs left v → Writes v bs
+writes_whole bs [] v none w = subst (Writes v) (sym w.parts) w.writes
+writes_whole bs (b ∷ left) v none w = absurd (omega arith)
 
--- numbers of a byte, with zeros after them
-bytes_zeros : (bs : List ℕ) (n i : ℕ) → ((k : ℕ) → get_or bs k 0 < 256) → get_or (bs ++ replicate n 0) i 0 < 256
-bytes_zeros [] zero i bytes = omega arith
-bytes_zeros [] (suc n) zero bytes = omega arith
-bytes_zeros [] (suc n) (suc i) bytes = bytes_zeros [] n i bytes
-bytes_zeros (b ∷ bs) n zero bytes = bytes 0
-bytes_zeros (b ∷ bs) n (suc i) bytes = bytes_zeros bs n i (λ k. bytes (suc k))
+module _ (bs left rest : List ℕ) (b v : ℕ) (next : left ≡ push rest b) (w : WritesFrom bs left v) where
+  parts_next : bs ≡ rest ++ (b ∷ w.done)
+  parts_next = w.parts ∙ ap (λ xs. xs ++ w.done) next ∙ append_assoc rest (b ∷ []) w.done
 
--- at most eight bytes, which the library reads as eight
-pub number_writes : (bs ys : List ℕ) (v : ℕ) → length bs ≤ 8 → ((i : ℕ) → get_or bs i 0 < 256) → ys ≡ bs → v < 2 ^ 64 → v ≡ from_le_bytes w64 (ys ++ drop (length bs) (replicate 8 0)) → Writes v bs
-number_writes bs ys v few bytes same fit is =
-    let n = 8 - length bs in
-    let zeros : ys ++ drop (length bs) (replicate 8 0) ≡ bs ++ replicate n 0 = (λ i. same i ++ drop-replicate (length bs) 8 0 i) in
-    let long : length (bs ++ replicate n 0) ≡ 8 = simp (length-append, length-replicate) (omega arith) in
-    let again : little 8 v ≡ bs ++ replicate n 0 =
-    sym (le_bytes_is v) ∙ le_bytes_8 (bs ++ replicate n 0) v long (λ i. bytes_zeros bs n i bytes) (is ∙ ap (from_le_bytes w64) zeros) in
-    let all : v ≡ value bs = sym (value_little 8 v fit) ∙ ap value again ∙ value_append_zeros bs n in
-    subst (λ u. Writes u bs) (sym all) (writes_value bs bytes)
+  -- at most seven bytes leave the place for one more
+  pub room_for_more : length bs ≤ 8 → v < 2 ^ 56
+  room_for_more few =
+      let count : length bs ≡ length rest + suc (length w.done) = ap length parts_next ∙ length-append rest (b ∷ w.done) in
+      let most : 8 * length w.done ≤ 56 = omega arith in
+      omega (arith, w.writes.fit, pow_mono most)
+
+  module _ (bytes : (i : ℕ) → get_or bs i 0 < 256) where
+    pub byte_next : b < 256
+    byte_next =
+        let at : get_or bs (length rest) 0 ≡ b = ap (λ xs. get_or xs (length rest) 0) parts_next ∙ get_or-append_seam rest b w.done 0 in
+        omega (arith, bytes (length rest))
+
+    pub writes_earlier : WritesFrom bs rest (v * 256 + b)
+    writes_earlier = record { done = b ∷ w.done; parts = parts_next; writes = writes_more b v w.done byte_next w.writes }

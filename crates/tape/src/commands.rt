@@ -111,7 +111,10 @@ pub(crate) fn number(bytes: &[u8]) -> u64
     ensures again { little (length bytes.now) result ≡ bytes.now }
     ensures fit { result < 2 ^ (8 * length bytes.now) }
 {
-    let mut word = [0; 8];
-    word[..bytes.len()].copy_from_slice(bytes);
-    u64::from_le_bytes(word)
+    let mut number = 0;
+    // byte by byte: most operands are a byte or two, which a copy into a word of eight takes longer to read
+    for byte in bytes.iter().rev() {
+        number = number * 256 + u64::from(*byte);
+    }
+    number
 }

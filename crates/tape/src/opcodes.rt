@@ -20,6 +20,25 @@ pub enum Opcode {
     Pop = 9,
 }
 
+// the same bytes as patterns
+const COPY: u8 = Opcode::Copy as u8;
+
+const SET: u8 = Opcode::Set as u8;
+
+const FETCH: u8 = Opcode::Fetch as u8;
+
+const BACK: u8 = Opcode::Back as u8;
+
+const STORE: u8 = Opcode::Store as u8;
+
+const KEEP: u8 = Opcode::Keep as u8;
+
+const RESERVE: u8 = Opcode::Reserve as u8;
+
+const CALL: u8 = Opcode::Call as u8;
+
+const POP: u8 = Opcode::Pop as u8;
+
 // The command that begins with a byte.
 impl TryFrom<u8> for Opcode {
     type Error = Refusal;
@@ -28,15 +47,15 @@ impl TryFrom<u8> for Opcode {
 
     fn try_from(byte: u8) -> Result<Opcode, Refusal> {
         match byte {
-            1 => Ok(Opcode::Copy),
-            2 => Ok(Opcode::Set),
-            3 => Ok(Opcode::Fetch),
-            4 => Ok(Opcode::Back),
-            5 => Ok(Opcode::Store),
-            6 => Ok(Opcode::Keep),
-            7 => Ok(Opcode::Reserve),
-            8 => Ok(Opcode::Call),
-            9 => Ok(Opcode::Pop),
+            COPY => Ok(Opcode::Copy),
+            SET => Ok(Opcode::Set),
+            FETCH => Ok(Opcode::Fetch),
+            BACK => Ok(Opcode::Back),
+            STORE => Ok(Opcode::Store),
+            KEEP => Ok(Opcode::Keep),
+            RESERVE => Ok(Opcode::Reserve),
+            CALL => Ok(Opcode::Call),
+            POP => Ok(Opcode::Pop),
             _ => Err(Refusal::UnknownCommand),
         }
     }

@@ -2,7 +2,7 @@
 ghost use Rattle.std.specs.Prelude.{◌≡◌, length};
 ghost use Rattle.bench.specs.Cells.{cell_count, judged_cells};
 ghost use Rattle.bench.specs.Benches.{Opened};
-ghost use Rattle.bench.specs.Origins.{OwnOrigins, own_origin};
+ghost use Rattle.bench.specs.Origins.{OwnOrigins};
 
 use crate::benches::Bench;
 use crate::benches::cells::Area;
@@ -53,19 +53,14 @@ pub fn own_origins(cells: &mut [Origin]) -> Result<(), Refusal>
     ensures cells { OwnOrigins result cells.old cells.new }
 {
     Bench::check(cells)?;
-    for (place, cell) in cells.iter_mut().enumerate() {
-        *cell = own_origin(place);
+    let (registers, others) = cells.split_at_mut(LOCALS);
+    let (locals, others) = others.split_at_mut(OUTGOING - LOCALS);
+    for (r, register) in registers.iter_mut().enumerate() {
+        *register = Origin::Register(Register(r as u8));
     }
+    for (n, local) in locals.iter_mut().enumerate() {
+        *local = Origin::Local(LocalSlot(n as u16));
+    }
+    others.fill(Origin::Unknown);
     Ok(())
-}
-
-// What the cell of a place holds that is its own origin; beyond the local slots that is unknown.
-fn own_origin(place: usize) -> Origin
-    ensures { result ≡ own_origin place }
-{
-    match place {
-        0..LOCALS => Origin::Register(Register(place as u8)),
-        LOCALS..OUTGOING => Origin::Local(LocalSlot((place - LOCALS) as u16)),
-        _ => Origin::Unknown,
-    }
 }

@@ -11,7 +11,7 @@ use machine::places::{OutgoingSlot, Register, RegisterSet};
 impl Convention for Board {
     ghost answers = { board_answers };
 
-    ghost lawful = { λ b. registers_first_lawful (numbers b.registers.now) _ _ _ b.different b.held b.ranged b.reserved };
+    ghost lawful = { λ b. registers_first_lawful (numbers b.count b.registers) _ _ _ b.different b.held b.ranged b.reserved };
 
     fn hidden(&self) -> u8 {
         0
@@ -26,14 +26,15 @@ impl Convention for Board {
     }
 
     fn place(&self, i: u8) -> Place {
-        match self.registers.get(i as usize) {
-            Some(register) => Place::Register(*register),
-            None => Place::Outgoing(OutgoingSlot((i as usize - self.registers.len()) as u16)),
+        if i < self.count {
+            Place::Register(self.registers[i as usize])
+        } else {
+            Place::Outgoing(OutgoingSlot((i - self.count) as u16))
         }
     }
 
     fn slots(&self, n: u8) -> u16 {
-        (n as usize).saturating_sub(self.registers.len()) as u16
+        n.saturating_sub(self.count) as u16
     }
 
     fn scratch(&self) -> Register {

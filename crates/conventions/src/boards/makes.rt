@@ -11,14 +11,17 @@ impl Board {
         ensures { board_answers result ≡ sysv }
     {
         Board {
-            registers: &[
+            registers: [
                 Register(7),
                 Register(6),
                 Register(2),
                 Register(1),
                 Register(8),
                 Register(9),
+                Register(0),
+                Register(0),
             ],
+            count: 6,
             scratch: Register(11),
             usable: RegisterSet(0x0000_F7EF),
             lost: RegisterSet(0x0000_0FC7),
@@ -30,7 +33,7 @@ impl Board {
         ensures { board_answers result ≡ aapcs64 }
     {
         Board {
-            registers: &[
+            registers: [
                 Register(0),
                 Register(1),
                 Register(2),
@@ -40,6 +43,7 @@ impl Board {
                 Register(6),
                 Register(7),
             ],
+            count: 8,
             scratch: Register(16),
             usable: RegisterSet(0x1FFA_FFFF),
             lost: RegisterSet(0x4007_FFFF),
@@ -51,7 +55,7 @@ impl Board {
         ensures { board_answers result ≡ riscv }
     {
         Board {
-            registers: &[
+            registers: [
                 Register(10),
                 Register(11),
                 Register(12),
@@ -61,6 +65,7 @@ impl Board {
                 Register(16),
                 Register(17),
             ],
+            count: 8,
             scratch: Register(31),
             usable: RegisterSet(0x7FFF_FFE0),
             lost: RegisterSet(0xF003_FCE2),

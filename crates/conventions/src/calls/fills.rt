@@ -1,12 +1,13 @@
 // The arguments of a call, filled in from a convention and a list.
-ghost use Rattle.std.specs.Prelude.{◌≡◌, ◌+◌, ◌≤◌, ◌++◌, ◌↔◌, length, IfOk, IsOk, OnOk};
-ghost use Rattle.conventions.specs.Calls.{Called, all_usable, arguments_in, arguments_of, given_arguments, hidden_arguments, source_usable};
+ghost use Rattle.std.specs.Prelude.{◌≡◌, ◌+◌, ◌≤◌, ◌++◌, ◌↔◌, length, IsOk, OnOk};
+ghost use Rattle.conventions.specs.Calls.{Called, all_usable, arguments_in, given_arguments, hidden_arguments, source_usable};
 ghost use Rattle.conventions.specs.Conventions.{argument_limit};
 ghost use Rattle.conventions.specs.Lists.{listed};
 
 use crate::arguments::{Argument, Place, Source};
 use crate::calls::Arguments;
 use crate::conventions::Convention;
+use crate::limits::ARGUMENTS_LENGTH;
 use crate::lists::ArgumentList;
 use bounded_lists::lists::{BoundedList, Full};
 use machine::places::{Register, RegisterSet};
@@ -70,11 +71,17 @@ fn fill_given<C: Convention>(
     Ok(())
 }
 
-// The hidden arguments, then the given, if they are not too many.
-fn filled<C: Convention>(convention: &C, sources: &[Source]) -> Result<Arguments, Full>
-    ensures ok { IfOk result (λ t. arguments_in t ≡ arguments_of (C.answers convention.now) sources.now) }
-    ensures room { IsOk result ↔ ((C.answers convention.now).hidden + length sources.now ≤ argument_limit) }
+// The arguments of a call with the listed sources given. A call is judged before anything is filled, so that a refusal costs no filling.
+pub fn arguments<C: Convention>(convention: &C, list: &ArgumentList) -> Result<Arguments, Refusal>
+    ensures { Called (C.answers convention.now) (listed list.now) result }
 {
+    let sources = list.sources();
+    if convention.hidden() as usize + sources.len() > ARGUMENTS_LENGTH {
+        return Err(Refusal::TooManyArguments);
+    }
+    if !all_usable(convention.usable(), sources) {
+        return Err(Refusal::NotUsable);
+    }
     let filler = Argument {
         place: Place::Register(Register(0)),
         source: Source::Number(0),
@@ -82,19 +89,7 @@ fn filled<C: Convention>(convention: &C, sources: &[Source]) -> Result<Arguments
     let mut arguments = Arguments {
         entries: BoundedList::new(filler),
     };
-    fill_hidden(convention, &mut arguments)?;
-    fill_given(convention, sources, &mut arguments)?;
-    Ok(arguments)
-}
-
-// The arguments of a call with the listed sources given.
-pub fn arguments<C: Convention>(convention: &C, list: &ArgumentList) -> Result<Arguments, Refusal>
-    ensures { Called (C.answers convention.now) (listed list.now) result }
-{
-    let sources = list.sources();
-    let arguments = filled(convention, sources).map_err(|_| Refusal::TooManyArguments)?;
-    if !all_usable(convention.usable(), sources) {
-        return Err(Refusal::NotUsable);
-    }
+    fill_hidden(convention, &mut arguments).unwrap();
+    fill_given(convention, sources, &mut arguments).unwrap();
     Ok(arguments)
 }

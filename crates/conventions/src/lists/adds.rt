@@ -3,6 +3,7 @@ ghost use Rattle.std.specs.Prelude.{◌≡◌, [], length};
 ghost use Rattle.conventions.specs.Lists.{Added, listed, source_verdict};
 
 use crate::arguments::Source;
+use crate::limits::ARGUMENTS_LENGTH;
 use crate::lists::ArgumentList;
 use bounded_lists::lists::BoundedList;
 use machine::limits::{LOCAL_SLOTS, REGISTERS};
@@ -34,9 +35,13 @@ impl ArgumentList {
     pub fn add(&mut self, source: Source) -> Result<(), Refusal>
         ensures { Added source result self.old self.new }
     {
-        let mut sources = self.sources;
-        sources.push(source).map_err(|_| Refusal::ListFull)?;
+        // judged before the copy, so that a refusal costs none
+        if self.sources.len() >= ARGUMENTS_LENGTH {
+            return Err(Refusal::ListFull);
+        }
         judge(source)?;
+        let mut sources = self.sources;
+        sources.push(source).unwrap();
         *self = ArgumentList { sources };
         Ok(())
     }

@@ -7,7 +7,6 @@ ghost use Rattle.moves.specs.Wants.{register_number, slot_number, wants_in};
 
 use crate::wants::Wants;
 use conventions::arguments::Source;
-use machine::limits::{OUTGOING_SLOTS, REGISTERS};
 use machine::places::{OutgoingSlot, Register};
 
 // Whether the source is a number or a local slot.
@@ -41,18 +40,20 @@ impl Wants {
     pub(crate) fn lowest_register(&self, source: Source) -> Option<Register>
         ensures { register_number result ≡ lowest_register (wants_in self.now) source }
     {
-        (0..REGISTERS)
-            .find(|r| self.register(Register(*r)) == Some(source))
-            .map(Register)
+        self.by_register
+            .iter()
+            .position(|want| *want == Some(source))
+            .map(|r| Register(r as u8))
     }
 
     // The lowest outgoing slot that wants the source.
     pub(crate) fn lowest_slot(&self, source: Source) -> Option<OutgoingSlot>
         ensures { slot_number result ≡ lowest_slot (wants_in self.now) source }
     {
-        (0..OUTGOING_SLOTS)
-            .find(|o| self.outgoing(OutgoingSlot(*o)) == Some(source))
-            .map(OutgoingSlot)
+        self.by_slot
+            .iter()
+            .position(|want| *want == Some(source))
+            .map(|o| OutgoingSlot(o as u16))
     }
 
     // Whether an outgoing slot wants the source.
